@@ -1,0 +1,10 @@
+pub mod Shape
+pub mod Sides
+pub mod Deviations
+pub mod Containment
+pub mod Loading
+pub mod Points
+pub mod HeldPoints
+pub mod Choice
+pub mod Figures
+pub mod Laws
