@@ -1,0 +1,41 @@
+// Terms and readings with their checks, flag changes, and the least of a run: what the rules say of single values.
+
+mod accepted;
+mod flags;
+mod order_of_checks;
+mod reading;
+mod run;
+mod terms;
+mod terms_input;
+
+pub use accepted::Accepted;
+pub use flags::brings_back;
+pub use reading::Reading;
+pub use reading::ReadingDebug;
+pub use reading::ReadingEq;
+pub use reading::ReadingPartialEq;
+pub use reading::SampleFault;
+pub use reading::SampleFaultDebug;
+pub use reading::SampleFaultEq;
+pub use reading::SampleFaultPartialEq;
+pub use run::Falling;
+pub use run::FallingSigned;
+pub use run::Order;
+pub use run::Rising;
+pub use run::RisingSigned;
+pub use run::RisingUnsigned;
+pub use run::least;
+pub use terms::Contract;
+pub use terms::ContractDebug;
+pub use terms::ContractEq;
+pub use terms::ContractPartialEq;
+pub use terms::Held;
+pub use terms::PERIODS;
+pub use terms::Terms;
+pub use terms::check::check_terms;
+pub use terms_input::Offer;
+pub use terms_input::TermsFault;
+pub use terms_input::TermsFaultDebug;
+pub use terms_input::TermsFaultEq;
+pub use terms_input::TermsFaultPartialEq;
+pub use terms_input::TermsInput;
