@@ -1,0 +1,9 @@
+pub mod FactorFacts
+pub mod FourErring
+pub mod LowestFacts
+pub mod MoneyFacts
+pub mod PromiseFacts
+pub mod RollingFacts
+pub mod TallyFacts
+pub mod WorseErrors
+pub mod WorstFacts
