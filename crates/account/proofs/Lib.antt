@@ -1,0 +1,10 @@
+pub mod Batches
+pub mod Carrying
+pub mod FollowingRuns
+pub mod FourRuns
+pub mod Keeps
+pub mod PromisesKept
+pub mod Rest
+pub mod Short
+pub mod WholeRuns
+pub mod WorseRuns

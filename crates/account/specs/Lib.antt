@@ -1,0 +1,10 @@
+pub mod Answers
+pub mod Calls
+pub mod Closed
+pub mod Figures
+pub mod History
+pub mod Promises
+pub mod Runs
+pub mod Settled
+pub mod State
+pub mod Verdicts
