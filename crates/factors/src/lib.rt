@@ -19,6 +19,5 @@ pub use settlement::ByFactor;
 pub use settlement::ByFactorOrder;
 pub use settlement::PeriodFigures;
 pub use settlement::Settlement;
-pub use tally::PERIODS;
 pub use tally::Tally;
 pub use worst::Worst;

@@ -9,9 +9,9 @@ use crate::settlement::ByFactor;
 use crate::settlement::ByFactorOrder;
 use crate::settlement::PeriodFigures;
 use crate::settlement::Settlement;
-use crate::tally::PERIODS;
 use rules::Contract;
 use rules::Held;
+use rules::PERIODS;
 use rules::Terms;
 
 // The product, of numbers small enough that it fits.

@@ -4,9 +4,9 @@ ghost use lib.Dec.{ltb};
 ghost use Rattle.factors.specs.Factors.{figures-of};
 use crate::factors::factor;
 use crate::period_record::PeriodRecord;
-use crate::tally::PERIODS;
 use crate::worst::Worst;
 use rules::Order;
+use rules::PERIODS;
 use rules::Terms;
 
 // The figures of one period: its number, the readings accepted, whether it is payable, the largest rolling error with the

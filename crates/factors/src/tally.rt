@@ -9,11 +9,9 @@ ghost use Rattle.factors.specs.Tally.{Tallied, most-readings, with-reading};
 use crate::judgement::Judgement;
 use crate::period_record::PeriodRecord;
 use crate::rolling::Rolling;
+use rules::PERIODS;
 
 pub mod settle;
-
-// The periods of a block.
-pub const PERIODS: usize = 8;
 
 // The rolling error at the newest reading, and the record of each period.
 #[derive(Clone, Copy)]

@@ -1,3 +1,4 @@
 pub mod Checks
+pub mod FlagTables
 pub mod ReadingsFacts
 pub mod TermsFacts

@@ -13,9 +13,9 @@ use crate::money::come_to;
 use crate::money::earning;
 use crate::settlement::PeriodFigures;
 use crate::settlement::Settlement;
-use crate::tally::PERIODS;
 use crate::tally::Tally;
 use rules::Contract;
+use rules::PERIODS;
 use rules::Terms;
 
 impl Tally {

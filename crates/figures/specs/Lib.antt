@@ -1,0 +1,2 @@
+pub mod Asymmetric
+pub mod Flat
