@@ -1,4 +1,5 @@
 // The block account: readings go in, factors and payments come out.
+#![tactic(auto)]
 
 mod answer;
 mod closed_block;

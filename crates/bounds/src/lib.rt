@@ -1,4 +1,5 @@
 // Window, grace, bounds and errors: what a reading is held against.
+#![tactic(auto)]
 
 mod errors;
 mod kept_window;

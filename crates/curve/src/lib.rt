@@ -2,6 +2,7 @@
 //
 // A curve is known by its meaning alone, the ghost member `shape` of the trait `Curve`; the facts that every
 // implementation shows of it are the trait's law.
+#![tactic(auto)]
 
 mod by_pieces;
 mod by_points;

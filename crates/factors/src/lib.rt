@@ -1,4 +1,5 @@
 // Rolling errors, factors and money of one contract, over the judgements of its readings.
+#![tactic(auto)]
 
 mod factors;
 mod judgement;

@@ -1,4 +1,5 @@
 // Runs the worked figures of the rules and many edge cases, and prints each figure with what it should be.
+#![tactic(auto)]
 
 mod asked;
 mod asymmetric_curve;

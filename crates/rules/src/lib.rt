@@ -1,4 +1,5 @@
 // Terms and readings with their checks, flag changes, and the least of a run: what the rules say of single values.
+#![tactic(auto)]
 
 mod accepted;
 mod flags;

@@ -1,4 +1,5 @@
 // The sheet: its lines, how they are read and written, and the faults that a sheet can have.
+#![tactic(auto)]
 
 mod checks;
 mod curve_line;

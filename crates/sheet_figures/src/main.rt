@@ -1,4 +1,5 @@
 // Reads and writes lines of a sheet on both sides of every limit, and prints each answer with what it should be.
+#![tactic(auto)]
 
 mod answer;
 mod forms;

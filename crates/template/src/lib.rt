@@ -1,4 +1,5 @@
 // Text with numbers in it: how a number is read and written, and templates with a number in each hole.
+#![tactic(auto)]
 
 mod digits;
 mod fault;

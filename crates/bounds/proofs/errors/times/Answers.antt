@@ -3,8 +3,8 @@ use Rattle.std.proofs.lemmas.Int.{ints, to_z-of_z}
 use Rattle.bounds.proofs.Products.{small}
 use Rattle.bounds.proofs.errors.times.Goals as goal
 
-pub overflow-mul-result : goal.overflow-mul-result
-overflow-mul-result c =
+pub overflow_mul-result : goal.overflow_mul-result
+overflow_mul-result c =
     let m = small c.args.a c.args.n (search rules) (search rules) (search rules) (search rules) in
     let f = c.ranges.a in
     let g = c.ranges.n in

@@ -2,11 +2,11 @@ use Rattle.std.proofs.Common.{refl}
 use Rattle.factors.proofs.MoneyFacts.{turn, turn_fits, summed_all}
 use Rattle.factors.proofs.money.earned.Goals as goal
 
-pub overflow-add-sum : goal.overflow-add-sum
-overflow-add-sum c = turn_fits c.args.each c.ranges.each c.requires c.args.periods.now c.told-periods _ c.earns-sum.result c.loop-period.period-index _ c.loop-period-test.true c.loop-period.invariant (record { sfits = c.earns-sum.type-inv }) c.earns-sum.ensures
+pub overflow_add-sum : goal.overflow_add-sum
+overflow_add-sum c = turn_fits c.args.each c.ranges.each c.requires c.args.periods.now c.told-periods _ c.earns-sum.result c.loop-period.period-index _ c.loop-period-test.true c.loop-period.invariant (record { sfits = c.earns-sum.type_inv }) c.earns-sum.ensures
 
 pub loop-period-preserved : goal.loop-period-preserved
-loop-period-preserved c = turn c.args.each c.ranges.each c.requires c.args.periods.now c.told-periods _ c.earns-sum.result _ c.loop-period.period-index _ c.loop-period-test.true c.loop-period.invariant (record { sfits = c.earns-sum.type-inv }) c.earns-sum.ensures refl
+loop-period-preserved c = turn c.args.each c.ranges.each c.requires c.args.periods.now c.told-periods _ c.earns-sum.result _ c.loop-period.period-index _ c.loop-period-test.true c.loop-period.invariant (record { sfits = c.earns-sum.type_inv }) c.earns-sum.ensures refl
 
 pub returns : goal.returns
 returns c =

@@ -2,8 +2,8 @@ use Rattle.std.proofs.Common.{nat_abs, ap, arith}
 use Rattle.factors.proofs.MoneyFacts.{times_fits, times_is, product_small}
 use Rattle.factors.proofs.money.times.Goals as goal
 
-pub overflow-mul-result : goal.overflow-mul-result
-overflow-mul-result c = times_fits c.args.n c.args.by c.ranges.n c.requires.0 c.requires.1
+pub overflow_mul-result : goal.overflow_mul-result
+overflow_mul-result c = times_fits c.args.n c.args.by c.ranges.n c.requires.0 c.requires.1
 
 pub returns : goal.returns
 returns c =

@@ -36,7 +36,7 @@ returns g c =
     let value = at_end g.O.Order.before c.args.run.now c.first-item.result c.loop-x.best c.loop-x.x-index (search rules) c.first-item.is c.loop-x.invariant c.loop-x-test.false in
     record { value = value; earliest = is_earliest g.O.Order.before g.met.O.Order.ranks c.args.run.now (Some c.loop-x.best) value }
 
-pub returns-in-default : goal.returns-in-default
-returns-in-default g c =
+pub returns-in_default : goal.returns-in_default
+returns-in_default g c =
     let empty : c.args.run.now ≡ [] = nil_from_length c.args.run.now (search rules) in
     record { value = sym (ap (least g.O.Order.before) empty); earliest = empty }

@@ -4,8 +4,8 @@ use Rattle.sheet.proofs.reader.read_curve.Goals as goal
 pub returns-then-count-eq0 : goal.returns-then-count-eq0
 returns-then-count-eq0 c = no_brackets c.args.bytes.now c.openings-count.result c.openings-count.ensures c.if-count-eq0.true
 
-pub returns-then-points-gt-MOST-POINTS : goal.returns-then-points-gt-MOST-POINTS
-returns-then-points-gt-MOST-POINTS c = too_many c.args.bytes.now c.openings-count.result c.openings-count.ensures c.if-points-gt-MOST-POINTS.true
+pub returns-then-points-gt-MOST_POINTS : goal.returns-then-points-gt-MOST_POINTS
+returns-then-points-gt-MOST_POINTS c = too_many c.args.bytes.now c.openings-count.result c.openings-count.ensures c.if-points-gt-MOST_POINTS.true
 
 pub returns : goal.returns
-returns c = counted_read c.args.bytes.now c.openings-count.result c.read-points.result c.openings-count.ensures c.read-points.ensures
+returns c = counted_read c.args.bytes.now c.openings-count.result c.read_points.result c.openings-count.ensures c.read_points.ensures

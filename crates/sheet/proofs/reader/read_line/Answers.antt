@@ -4,10 +4,10 @@ use Rattle.sheet.specs.Lines.{curve_said, of_block, of_reading}
 use Rattle.sheet.proofs.LinesRead.{no_line, only, read_as, unfit}
 use Rattle.sheet.proofs.reader.read_line.Goals as goal
 
-pub returns-in-err-check-form : goal.returns-in-err-check-form
-returns-in-err-check-form c =
-    let p = err_from_is_err_and c.from-residual.result c.from-residual.ensures.1 in
-    let so = unfit c.args.bytes.now c.in-err-check-form.field-0.0 c.from-residual.result c.if-bytes-gt-LONGEST.false c.in-err-check-form.ensures (p.1 ∙ ap Err p.2) in
+pub returns-in_err-check_form : goal.returns-in_err-check_form
+returns-in_err-check_form c =
+    let p = err_from_is_err_and c.from_residual.result c.from_residual.ensures.1 in
+    let so = unfit c.args.bytes.now c.in_err-check_form.field-0.0 c.from_residual.result c.if-bytes-gt-LONGEST.false c.in_err-check_form.ensures (p.1 ∙ ap Err p.2) in
     record { answered = so.0; every = so.1 }
 
 pub returns-in-Some : goal.returns-in-Some
@@ -15,17 +15,17 @@ returns-in-Some c =
     let line = read_as c.args.bytes.now (of_reading c.in-Some.reading) c.if-bytes-gt-LONGEST.false c.in-Some.ensures in
     record { answered = line; every = only c.args.bytes.now (of_reading c.in-Some.reading) line }
 
-pub returns-in-Some-read-block : goal.returns-in-Some-read-block
-returns-in-Some-read-block c =
-    let line = read_as c.args.bytes.now (of_block c.in-Some-read-block.terms) c.if-bytes-gt-LONGEST.false c.in-Some-read-block.ensures in
-    record { answered = line; every = only c.args.bytes.now (of_block c.in-Some-read-block.terms) line }
+pub returns-in-Some-read_block : goal.returns-in-Some-read_block
+returns-in-Some-read_block c =
+    let line = read_as c.args.bytes.now (of_block c.in-Some-read_block.terms) c.if-bytes-gt-LONGEST.false c.in-Some-read_block.ensures in
+    record { answered = line; every = only c.args.bytes.now (of_block c.in-Some-read_block.terms) line }
 
-pub returns-in-Some-read-curve : goal.returns-in-Some-read-curve
-returns-in-Some-read-curve c =
-    let line = read_as c.args.bytes.now (curve_said c.in-Some-read-curve.line) c.if-bytes-gt-LONGEST.false c.in-Some-read-curve.ensures in
-    record { answered = line; every = only c.args.bytes.now (curve_said c.in-Some-read-curve.line) line }
+pub returns-in-Some-read_curve : goal.returns-in-Some-read_curve
+returns-in-Some-read_curve c =
+    let line = read_as c.args.bytes.now (curve_said c.in-Some-read_curve.line) c.if-bytes-gt-LONGEST.false c.in-Some-read_curve.ensures in
+    record { answered = line; every = only c.args.bytes.now (curve_said c.in-Some-read_curve.line) line }
 
 pub returns-in-None : goal.returns-in-None
 returns-in-None c =
-    let none = no_line c.args.bytes.now c.in-default.ensures c.in-default-read-block.ensures c.in-None.ensures in
-    record { answered = (c.if-bytes-gt-LONGEST.false, c.in-ok-check-form.ensures, none); every = λ said line. absurd (none said line) }
+    let none = no_line c.args.bytes.now c.in_default.ensures c.in_default-read_block.ensures c.in-None.ensures in
+    record { answered = (c.if-bytes-gt-LONGEST.false, c.in_ok-check_form.ensures, none); every = λ said line. absurd (none said line) }

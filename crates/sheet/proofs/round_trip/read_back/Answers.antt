@@ -6,6 +6,6 @@ use Rattle.sheet.proofs.round_trip.read_back.Goals as goal
 
 pub unreachable-requires : goal.unreachable-requires
 unreachable-requires c =
-    let line : IsLine (take (c.in-ok-length.length - 0) c.write-line.new.out) (said_by c.args.line.now) =
-    subst (λ (n : ℕ). IsLine (take n c.write-line.new.out) (said_by c.args.line.now)) (sym (sub-zero c.in-ok-length.length)) c.in-ok-length.ensures.is_line in
+    let line : IsLine (take (c.in_ok-length.length - 0) c.write_line.new.out) (said_by c.args.line.now) =
+    subst (λ (n : ℕ). IsLine (take n c.write_line.new.out) (said_by c.args.line.now)) (sym (sub-zero c.in_ok-length.length)) c.in_ok-length.ensures.is_line in
     never_refused (said_by c.args.line.now) (c.in-Err.ensures.every (said_by c.args.line.now) line)

@@ -5,4 +5,4 @@ use Rattle.sheet.proofs.writer.write_block.Goals as goal
 
 pub returns : goal.returns
 returns c =
-    written_by (of_block c.args.terms.now) c.args.out.now c.write-filled.new.out c.write-filled.result block_template c.block-numbers.result refl c.block-numbers.ensures c.write-filled.ensures
+    written_by (of_block c.args.terms.now) c.args.out.now c.write_filled.new.out c.write_filled.result block_template c.block_numbers.result refl c.block_numbers.ensures c.write_filled.ensures

@@ -5,4 +5,4 @@ use Rattle.sheet.proofs.writer.write_reading.Goals as goal
 
 pub returns : goal.returns
 returns c =
-    written_by (of_reading c.args.reading.now) c.args.out.now c.write-filled.new.out c.write-filled.result reading_template c.reading-numbers.result refl c.reading-numbers.ensures c.write-filled.ensures
+    written_by (of_reading c.args.reading.now) c.args.out.now c.write_filled.new.out c.write_filled.result reading_template c.reading_numbers.result refl c.reading_numbers.ensures c.write_filled.ensures

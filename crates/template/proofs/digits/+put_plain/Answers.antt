@@ -10,14 +10,14 @@ returns-then-n-lt10 t c =
     let one = length_one c.args.n c.if-n-lt10.true in
     record { count = sym one; written = put_one c.args.n c.args.out.now c.if-n-lt10.true (omega arith) }
 
-pub put-plain-at-requires : goal.put-plain-at-requires
-put-plain-at-requires t c = let more = length_more c.args.n c.if-n-lt10.false c.ranges.n.fits in omega arith
+pub put_plain-at-requires : goal.put_plain-at-requires
+put_plain-at-requires t c = let more = length_more c.args.n c.if-n-lt10.false c.ranges.n.fits in omega arith
 
 pub bounds-out-at : goal.bounds-out-at
 bounds-out-at t c = let more = length_more c.args.n c.if-n-lt10.false c.ranges.n.fits in omega arith
 
-pub overflow-add-result : goal.overflow-add-result
-overflow-add-result t c =
+pub overflow_add-result : goal.overflow_add-result
+overflow_add-result t c =
     let more = length_more c.args.n c.if-n-lt10.false c.ranges.n.fits in
     let few = length_few c.args.n c.ranges.n.fits in
     omega arith
@@ -27,6 +27,6 @@ returns t c =
     let more = length_more c.args.n c.if-n-lt10.false c.ranges.n.fits in
     record {
       count = omega arith;
-      written = ap (λ b. set b c.put-plain-at.result (48 + c.args.n % 10)) c.put-plain-at.ensures.written
-          ∙ put_more c.args.n c.args.out.now c.put-plain-at.result c.if-n-lt10.false c.ranges.n.fits c.requires c.put-plain-at.ensures.count;
+      written = ap (λ b. set b c.put_plain-at.result (48 + c.args.n % 10)) c.put_plain-at.ensures.written
+          ∙ put_more c.args.n c.args.out.now c.put_plain-at.result c.if-n-lt10.false c.ranges.n.fits c.requires c.put_plain-at.ensures.count;
     }

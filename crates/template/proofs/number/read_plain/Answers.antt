@@ -13,11 +13,11 @@ returns-then-bytes-eq48 c n rest led =
 
 pub value-requires : goal.value-requires
 value-requires c =
-    let f = front_few c.args.bytes.now c.leading-digits-count.result c.leading-digits-count.ensures.value c.if-count-gt10.false in
+    let f = front_few c.args.bytes.now c.leading_digits-count.result c.leading_digits-count.ensures.value c.if-count-gt10.false in
     record { digits = simp sub-zero f.0; few = simp sub-zero f.1 }
 
 pub returns : goal.returns
 returns c =
-    let nought : 1 < c.leading-digits-count.result → get_or c.args.bytes.now 0 0 ≡ 48 → ⊥ = λ more is.
+    let nought : 1 < c.leading_digits-count.result → get_or c.args.bytes.now 0 0 ≡ 48 → ⊥ = λ more is.
     elim c.else-count-gt1.branch [ else-count-gt1-via-then-count-gt1+else-bytes-eq48 w ↦ w.if-bytes-eq48.false is | else-count-gt1-via-else-count-gt1 w ↦ omega (arith, w.if-count-gt1.false) ] in
-    (plain_led c.args.bytes.now c.leading-digits-count.result c.value.result c.leading-digits-count.ensures.value c.if-count-eq0.false c.if-count-gt10.false nought (simp sub-zero at c.value.ensures), c.leading-digits-count.ensures.within)
+    (plain_led c.args.bytes.now c.leading_digits-count.result c.value.result c.leading_digits-count.ensures.value c.if-count-eq0.false c.if-count-gt10.false nought (simp sub-zero at c.value.ensures), c.leading_digits-count.ensures.within)

@@ -14,5 +14,5 @@ returns-in-Batch g c = record {
   kind = sym (ap is_batch c.in-Batch.is);
   made =
       batch_made g.C.Curve.shape _ _ _ _ c.batch.result c.in-Batch.entries.len c.args.self.now c.batch.new.self
-      (c.as-mut-slice.ensures.value ∙ sym (ap entries_of c.in-Batch.is)) (c.batch.auto.entries ∙ c.as-mut-slice.ensures.len) c.batch.ensures;
+      (c.as_mut_slice.ensures.value ∙ sym (ap entries_of c.in-Batch.is)) (c.batch.auto.entries ∙ c.as_mut_slice.ensures.len) c.batch.ensures;
 }

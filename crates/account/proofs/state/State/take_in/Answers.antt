@@ -13,17 +13,17 @@ returns g c =
     let t = c.args.terms.now in
     let s = g.K.Curve.shape c.args.curve.now in
     let r = c.args.reading.reading in
-    let now : (h : List Reading) → Kept t s h c.args.self.now → Tracks (sides t) s (r ∷ h) c.take-in.new.self = λ h k.
-    subst (λ x. Tracks x s (r ∷ h) c.take-in.new.self) c.sides.ensures
-    (c.take-in.ensures h (subst (λ x. Tracks x s h c.args.self.now.track) (sym c.sides.ensures) k.track)) in
+    let now : (h : List Reading) → Kept t s h c.args.self.now → Tracks (sides t) s (r ∷ h) c.take_in.new.self = λ h k.
+    subst (λ x. Tracks x s (r ∷ h) c.take_in.new.self) c.sides.ensures
+    (c.take_in.ensures h (subst (λ x. Tracks x s h c.args.self.now.track) (sym c.sides.ensures) k.track)) in
     record {
-      own = only_in t r c.args.self.now _ _ _ _ _ _ _ c.judgement-low.ensures c.take-in-2.ensures.own c.judgement-high.ensures c.take-in-3.ensures.own;
+      own = only_in t r c.args.self.now _ _ _ _ _ _ _ c.judgement-low.ensures c.take_in-2.ensures.own c.judgement-high.ensures c.take_in-3.ensures.own;
       kept = λ h short k.
           kept_on t s r h _ _ _ _ _ _ _ (now h k)
           c.judgement-low.ensures (c.error.ensures.error r h (now h k))
-          (c.take-in-2.ensures.tallied (judgements t s Low h) (subst (λ n. n < 288000) (sym (length_judgements t s Low h)) short) k.low)
+          (c.take_in-2.ensures.tallied (judgements t s Low h) (subst (λ n. n < 288000) (sym (length_judgements t s Low h)) short) k.low)
           c.judgement-high.ensures (c.error-2.ensures.error r h (now h k))
-          (c.take-in-3.ensures.tallied (judgements t s High h) (subst (λ n. n < 288000) (sym (length_judgements t s High h)) short) k.high);
+          (c.take_in-3.ensures.tallied (judgements t s High h) (subst (λ n. n < 288000) (sym (length_judgements t s High h)) short) k.high);
       answer = λ h short k.
           answer_is t s r h _ _ _ _ _ c.judgement-low.ensures (c.error.ensures.error r h (now h k)) c.judgement-high.ensures (c.error-2.ensures.error r h (now h k)) (c.bounds.ensures ∙ (now h k).bounds);
     }

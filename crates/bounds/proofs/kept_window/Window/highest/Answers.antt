@@ -7,4 +7,4 @@ use Rattle.bounds.proofs.kept_window.Window.highest.Goals as goal
 
 pub returns : goal.returns
 returns c =
-    omega (arith, ints) ∙ c.unwrap-or.ensures ∙ ap (λ o. unwrap_or o (pos 50000)) c.least.ensures.value ∙ ap highest (part c.args.self.now.latest _ (search rules))
+    omega (arith, ints) ∙ c.unwrap_or.ensures ∙ ap (λ o. unwrap_or o (pos 50000)) c.least.ensures.value ∙ ap highest (part c.args.self.now.latest _ (search rules))

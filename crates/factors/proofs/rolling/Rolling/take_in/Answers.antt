@@ -5,6 +5,6 @@ use Rattle.factors.proofs.rolling.Rolling.take_in.Goals as goal
 
 pub returns : goal.returns
 returns c =
-    taken_in c.args.self.now c.args.j.now c.in-Some.error c.longer-count.result c.last-four.result c.in-Some.is
+    taken_in c.args.self.now c.args.j.now c.in-Some.error c.longer-count.result c.last_four.result c.in-Some.is
     (c.longer-count.ensures ∙ ap (λ b. longer b c.args.self.now.count) c.extends.ensures)
-    c.last-four.ensures
+    c.last_four.ensures

@@ -3,8 +3,8 @@ use Rattle.std.proofs.lemmas.Int.{ints}
 use Rattle.rules.proofs.ReadingsFacts.{facts}
 use Rattle.rules.proofs.accepted.Accepted.flag.Goals as goal
 
-pub overflow-cast-result : goal.overflow-cast-result
-overflow-cast-result c = let f = facts c.args.self.now.reading c.args.self.now.checked in search rules
+pub overflow_cast-result : goal.overflow_cast-result
+overflow_cast-result c = let f = facts c.args.self.now.reading c.args.self.now.checked in search rules
 
 pub returns : goal.returns
 returns c = let f = facts c.args.self.now.reading c.args.self.now.checked in search rules

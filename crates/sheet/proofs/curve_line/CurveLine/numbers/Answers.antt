@@ -8,5 +8,5 @@ pub returns : goal.returns
 returns c =
     let f : SFits w64 c.args.self.now.ramp = search rules in
     let g : SFits w64 c.args.self.now.lag = search rules in
-    line_put _ _ c.args.self.now.ramp c.args.self.now.lag _ (points_of c.args.self.now) c.points.result.now c.put-points.new.numbers (to_z-of_z w64 _ f) (to_z-of_z w64 _ g)
-    c.points.ensures.said (sym (ap length c.points.ensures.said) ∙ c.points.ensures.counted) c.put-points.ensures
+    line_put _ _ c.args.self.now.ramp c.args.self.now.lag _ (points_of c.args.self.now) c.points.result.now c.put_points.new.numbers (to_z-of_z w64 _ f) (to_z-of_z w64 _ g)
+    c.points.ensures.said (sym (ap length c.points.ensures.said) ∙ c.points.ensures.counted) c.put_points.ensures

@@ -8,8 +8,8 @@ pub returns : goal.returns
 returns c =
     let f : SFits w64 (get_or c.args.numbers.now 0 (pos 0)) = search rules in
     let g : SFits w64 (get_or c.args.numbers.now 1 (pos 0)) = search rules in
-    let long : length c.take-points.new.points ≡ c.args.count = search rules in
+    let long : length c.take_points.new.points ≡ c.args.count = search rules in
     record {
-      said = line_taken _ _ c.args.numbers.now c.args.count c.take-points.new.points _ (to_z-of_z w64 _ f) (to_z-of_z w64 _ g) c.requires.all long c.take-points.ensures;
-      counted = ap length (take_at c.take-points.new.points _ c.args.count long) ∙ long;
+      said = line_taken _ _ c.args.numbers.now c.args.count c.take_points.new.points _ (to_z-of_z w64 _ f) (to_z-of_z w64 _ g) c.requires.all long c.take_points.ensures;
+      counted = ap length (take_at c.take_points.new.points _ c.args.count long) ∙ long;
     }

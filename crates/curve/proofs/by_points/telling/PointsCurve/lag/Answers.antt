@@ -12,5 +12,5 @@ returns c =
     let f : SFits w64 c.args.self.now.lag = search rules in
     let l = to_z-of_z w64 c.args.self.now.lag f in
     let s = size_order c.args.self.now.lag (pos 10) m.some_lag m.most_lag in
-    let v : c.unsigned-abs.result ≡ nat_abs c.args.self.now.lag = cc in
+    let v : c.unsigned_abs.result ≡ nat_abs c.args.self.now.lag = cc in
     record { value = v; bounds = omega arith }
