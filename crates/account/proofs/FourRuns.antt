@@ -1,5 +1,5 @@
 -- Four judgements that err are four readings that do, and the other way round. Assumes nothing.
-use Rattle.std.proofs.Common.{◌≡◌, ℕ, ◌+◌, ◌*◌, ◌/◌, ◌<◌, ◌≤◌, true, ◌&&◌, List, [], ◌∷◌, ◌++◌, ℤ, pos, ◌+ℤ◌, nat_abs, ◌≤ℤ◌, None, sym, refl, ap, ◌∙◌, subst, div-lt_iff_lt-mul, arith}
+use Rattle.std.proofs.Common.{◌≡◌, ℕ, ◌+◌, ◌*◌, ◌/◌, ◌<◌, ◌≤◌, true, ◌&&◌, List, [], ◌∷◌, ◌++◌, ℤ, pos, ◌+ℤ◌, nat_abs, ◌≤ℤ◌, sym, refl, ap, ◌∙◌, subst, div-lt_iff_lt-mul, arith}
 use lib.Signed.{le_z, lt_z}
 use Rattle.std.proofs.lemmas.Int.{ints}
 use Rattle.std.proofs.lemmas.Bool.{and_parts}
@@ -10,7 +10,6 @@ use Rattle.factors.specs.Promises.{Four, Over}
 use Rattle.factors.specs.declared.judgement.Judgement.{Judgement}
 use Rattle.rules.proofs.ReadingsFacts.{passed, facts, accepted_in_range}
 use Rattle.rules.proofs.TermsFacts as terms
-use Rattle.rules.specs.ReadingsCheck.{refused_reading}
 use Rattle.rules.specs.Terms.{periods}
 use Rattle.rules.specs.declared.reading.Reading.{Reading}
 use Rattle.rules.specs.declared.terms.Contract.{Contract}

@@ -1,5 +1,5 @@
 -- What is kept goes on to be that of the history. Assumes nothing.
-use Rattle.std.proofs.Common.{◌≡◌, ℕ, suc, ◌+◌, ◌<◌, ◌≤◌, Bool, true, false, cond, ltb, List, [], ◌∷◌, length, get_or, set, ℤ, pos, nat_abs, Option, sym, refl, ap, ◌∙◌, subst, arith}
+use Rattle.std.proofs.Common.{◌≡◌, ℕ, suc, Bool, true, false, cond, ltb, List, [], ◌∷◌, length, get_or, set, ℤ, nat_abs, Option, refl, ap, ◌∙◌, subst}
 use Rattle.std.proofs.lemmas.List.{get_or-set_other}
 use Rattle.bounds.specs.Bounds.{bounds}
 use Rattle.bounds.specs.Errors.{error_at}
@@ -19,7 +19,7 @@ use Rattle.rules.specs.declared.terms.Contract.TheVariants.{Low, High}
 use Rattle.rules.specs.declared.terms.Terms.{Terms}
 use Rattle.account.specs.Answers.{answer}
 use Rattle.account.specs.declared.answer.Answer.{Answer}
-use Rattle.account.specs.History.{period, judgement, judgements}
+use Rattle.account.specs.History.{period, judgements}
 use Rattle.account.specs.State.{Kept, OnlyIn}
 use Rattle.account.specs.declared.state.State.{State}
 

@@ -1,17 +1,15 @@
 -- The promises, of what a contract comes to after any readings. Assumes nothing.
-use Rattle.std.proofs.Common.{◌≡◌, List, [], ◌∷◌, sym, refl, ap, ◌∙◌, subst}
+use Rattle.std.proofs.Common.{◌≡◌, List, [], sym, refl, subst}
 use Rattle.curve.specs.Shape.{Shape, IsCurve}
-use Rattle.curve.specs.declared.one_sided.Sides.{Sides}
 use Rattle.curve.specs.Sides.{sided}
 use Rattle.factors.proofs.PromiseFacts as factors
-use Rattle.factors.specs.Money.{Settled, told, settled}
+use Rattle.factors.specs.Money.{told, settled}
 use Rattle.factors.specs.declared.settlement.Settlement.{Settlement}
-use Rattle.rules.specs.Terms.{sides}
 use Rattle.rules.specs.declared.reading.Reading.{Reading}
 use Rattle.rules.specs.declared.terms.Contract.{Contract}
 use Rattle.rules.specs.declared.terms.Contract.TheVariants.{Low, High}
 use Rattle.rules.specs.declared.terms.Terms.{Terms}
-use Rattle.account.specs.Calls.{curve_of, Carries}
+use Rattle.account.specs.Calls.{Carries}
 use Rattle.account.specs.Closed.{told_of, Closes}
 use Rattle.account.specs.History.{AllAccepted, history, judgements}
 use Rattle.account.specs.Promises.{Promised}

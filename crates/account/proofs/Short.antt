@@ -1,5 +1,5 @@
 -- A block has at most 288,000 readings. Assumes nothing.
-use Rattle.std.proofs.Common.{◌≡◌, ℕ, suc, ◌<◌, true, List, [], ◌∷◌, length, ℤ, pos, ◌≤ℤ◌, Some, None, arith}
+use Rattle.std.proofs.Common.{◌≡◌, ◌<◌, true, List, [], ◌∷◌, length, pos, ◌≤ℤ◌, Some, None, arith}
 use lib.Signed.{lt_z}
 use Rattle.std.proofs.lemmas.Int.{ints}
 use Rattle.bounds.specs.Window.{newest}

@@ -1,16 +1,14 @@
 -- Readings that differ only in the power of accepted ones have histories that differ only so, and errors that are not
 -- smaller make judgements that are not. Assumes nothing.
-use Rattle.std.proofs.Common.{◌≡◌, ℕ, ◌/◌, ◌≤◌, Bool, true, false, cond, ◌&&◌, ◌⊎◌, List, [], ◌∷◌, ℤ, nat_abs, Some, None, Option, sym, refl, ap, ◌∙◌, subst, inl, inr, arith}
+use Rattle.std.proofs.Common.{◌≡◌, ℕ, ◌/◌, Bool, true, false, cond, ◌&&◌, ◌⊎◌, List, [], ◌∷◌, nat_abs, Some, None, Option, sym, refl, ap, ◌∙◌, subst, inl, inr, arith}
 use Rattle.std.specs.List.{AllZip}
-use Rattle.bounds.specs.Errors.{error_at, scaled, distance, in_kilowatts}
-use Rattle.bounds.specs.Bounds.{bounds}
 use Rattle.bounds.specs.Window.{newest}
 use Rattle.curve.specs.Shape.{Shape}
-use Rattle.factors.specs.Promises.{NoSmallerError, ErrsNoLess, NoSmaller}
+use Rattle.factors.specs.Promises.{NoSmallerError, NoSmaller}
 use Rattle.rules.specs.Check.{unless}
 use Rattle.rules.specs.Flags.{available}
 use Rattle.rules.specs.ReadingsCheck.{refused_reading, frequency_fits, power_fits, baseline_fits, flag_fits, after_last, in_block}
-use Rattle.rules.specs.Terms.{holds, quantity, sides}
+use Rattle.rules.specs.Terms.{holds}
 use Rattle.rules.specs.declared.reading.Reading.{Reading}
 use Rattle.rules.specs.declared.reading.SampleFault.{SampleFault}
 use Rattle.rules.specs.declared.reading.SampleFault.TheVariants.{Frequency, Power, Baseline, Flag, NotAfterLast, OutsideBlock}

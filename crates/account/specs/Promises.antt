@@ -1,5 +1,5 @@
 -- What is promised of a block, for each contract on its own. Assumes nothing.
-use Rattle.std.specs.Prelude.{◌≡◌, ℕ, ◌<◌, ◌≤◌, true, ◌⊎◌, List, [], ◌∷◌, ◌++◌, ℤ, pos, ◌+ℤ◌, ◌≤ℤ◌, Some, None, Option}
+use Rattle.std.specs.Prelude.{◌≡◌, ℕ, ◌<◌, ◌≤◌, true, ◌⊎◌, List, [], ◌∷◌, ◌++◌, pos, ◌+ℤ◌, ◌≤ℤ◌, Some, None, Option}
 use Rattle.bounds.specs.Errors.{error_at}
 use Rattle.bounds.specs.Laws.{Follows}
 use Rattle.bounds.specs.Window.{newest}

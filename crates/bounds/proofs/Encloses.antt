@@ -1,5 +1,5 @@
 -- The bounds enclose what the curve tells in the window. Assumes nothing.
-use Rattle.std.proofs.Common.{◌≡◌, ℕ, zero, suc, ◌+◌, ◌-◌, ◌<◌, ◌≤◌, Bool, true, false, cond, List, [], ◌∷◌, ◌++◌, map, reverse, length, get_or, ℤ, pos, ◌+ℤ◌, ◌-ℤ◌, neg_ℤ, ◌≤ℤ◌, sym, refl, ap, ◌∙◌, subst, arith}
+use Rattle.std.proofs.Common.{◌≡◌, ℕ, Bool, true, false, cond, List, [], ◌∷◌, map, reverse, get_or, ℤ, pos, ◌+ℤ◌, ◌-ℤ◌, neg_ℤ, ◌≤ℤ◌, sym, ap, ◌∙◌, subst, arith}
 use lib.Signed.{lt_z}
 use Rattle.std.proofs.lemmas.List.MinMax.{IsFirstBest-from_best_of, IsStrictWeakOrder-flip}
 use Rattle.std.proofs.ByRecursion.{has_push}
@@ -14,7 +14,7 @@ use Rattle.curve.specs.declared.one_sided.Sides.{Sides}
 use Rattle.curve.specs.declared.one_sided.Sides.TheVariants.{Low, High, Both}
 use Rattle.curve.specs.SidedFacts as sided_facts
 use Rattle.rules.specs.declared.reading.Reading.{Reading}
-use Rattle.bounds.specs.Bounds.{raw, raw_bounds, limited, bounds, top, bottom}
+use Rattle.bounds.specs.Bounds.{raw, raw_bounds, bounds, top, bottom}
 use Rattle.bounds.specs.Grace.{grace}
 use Rattle.bounds.specs.Laws.{BoundsLaw}
 use Rattle.bounds.specs.Window.{gap, window, frequencies, lowest, highest}

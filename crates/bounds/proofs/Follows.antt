@@ -1,6 +1,6 @@
 -- One reading more, by history: what is kept goes on to be that of the history. Assumes nothing.
-use Rattle.std.proofs.Common.{◌≡◌, ℕ, zero, suc, ◌+◌, ◌-◌, ◌<◌, ◌≤◌, Bool, true, false, cond, not, List, [], ◌∷◌, ◌++◌, map, reverse, length, take, drop, ℤ, Some, None, Option, sym, refl, ap, ◌∙◌, subst, arith}
-use Rattle.std.proofs.lemmas.List.{take-append-drop, reverse-append, length-reverse, length-drop, length-append, drop_at, take-map}
+use Rattle.std.proofs.Common.{◌≡◌, ℕ, zero, suc, ◌-◌, Bool, true, false, cond, not, List, [], ◌∷◌, ◌++◌, map, reverse, length, take, drop, ℤ, Some, None, Option, sym, refl, ap, ◌∙◌, arith}
+use Rattle.std.proofs.lemmas.List.{take-append-drop, reverse-append, length-reverse, length-drop, drop_at, take-map}
 use Rattle.curve.specs.Shape.{Shape}
 use Rattle.curve.specs.declared.one_sided.Sides.{Sides}
 use Rattle.rules.specs.declared.accepted.Accepted.{Accepted}
@@ -12,7 +12,6 @@ use Rattle.bounds.specs.Kept.{told, newest_of, slid, event, after, in_grace, is_
 use Rattle.bounds.specs.Window.{newest, successive, gap, window, frequencies}
 use Rattle.bounds.specs.Track.{reading_of, next_bounds, Stepped, phase_of, BoundsAre, Tracks}
 use Rattle.bounds.specs.declared.track.Track.{Track}
-use Rattle.bounds.specs.declared.phase.Event.{Event}
 use Rattle.bounds.specs.declared.phase.Event.TheVariants.{Plain, Gap, ContractBack}
 use Rattle.bounds.proofs.Phases.{grace_is}
 

@@ -1,10 +1,10 @@
 -- The kept phase is grace exactly where some reading among the newest lag + 1 opened it. Assumes nothing.
-use Rattle.std.proofs.Common.{◌≡◌, ℕ, zero, suc, ◌+◌, ◌-◌, ◌<◌, ◌≤◌, Bool, true, false, cond, not, ◌||◌, ltb, List, [], ◌∷◌, Some, None, Option, sym, refl, ap, ◌∙◌, inl, inr, lt_of_lt_of_le, lt_irrefl, arith}
+use Rattle.std.proofs.Common.{◌≡◌, ℕ, zero, suc, ◌-◌, ◌<◌, ◌≤◌, Bool, true, false, cond, not, ◌||◌, ltb, List, [], ◌∷◌, Some, sym, refl, ap, ◌∙◌, inl, inr, lt_of_lt_of_le, lt_irrefl, arith}
 use Rattle.std.proofs.lemmas.Bool.{lt-ltb, le-ltb, cases_lt, or_parts}
 use Rattle.curve.specs.declared.one_sided.Sides.{Sides}
 use Rattle.rules.specs.Flags.{brings_back}
 use Rattle.rules.specs.declared.reading.Reading.{Reading}
-use Rattle.bounds.specs.Window.{newest, successive, gap}
+use Rattle.bounds.specs.Window.{successive}
 use Rattle.bounds.specs.Grace.{opens, opened, grace}
 use Rattle.bounds.specs.Kept.{event, after, in_grace}
 use Rattle.bounds.specs.Track.{phase_of}

@@ -1,5 +1,5 @@
 -- Products of small numbers are small. Assumes nothing.
-use Rattle.std.proofs.Common.{◌≡◌, ℕ, suc, ◌*◌, ◌<◌, ◌≤◌, ℤ, pos, negsuc, ◌*ℤ◌, neg_ℤ, ◌≤ℤ◌, mul-le-mul, mul-pos, arith}
+use Rattle.std.proofs.Common.{ℕ, suc, ◌*◌, ◌<◌, ◌≤◌, ℤ, pos, negsuc, ◌*ℤ◌, ◌≤ℤ◌, mul-le-mul, mul-pos, arith}
 use Rattle.std.proofs.lemmas.Int.{ints}
 
 pub small : (a n : ℤ) → negsuc 1999999 ≤ℤ a → a ≤ℤ pos 2000000 → pos 0 ≤ℤ n → n ≤ℤ pos 1000000 → (negsuc 1999999999999 ≤ℤ (a *ℤ n)) × ((a *ℤ n) ≤ℤ pos 2000000000000)

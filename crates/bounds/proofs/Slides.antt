@@ -1,7 +1,7 @@
 -- The kept window as one more frequency comes. Assumes nothing.
-use Rattle.std.proofs.Common.{◌≡◌, ℕ, ◌+◌, ◌-◌, ◌<◌, ◌≤◌, min, Bool, true, false, cond, List, [], ◌∷◌, ◌++◌, length, take, drop, set, ℤ, sym, refl, ap, ◌∙◌, arith}
+use Rattle.std.proofs.Common.{◌≡◌, ℕ, ◌+◌, ◌-◌, ◌≤◌, min, Bool, true, false, List, [], ◌∷◌, ◌++◌, length, take, drop, set, ℤ, sym, refl, ap, ◌∙◌, arith}
 use Rattle.std.proofs.lemmas.List.{set_at, drop-append-le, drop-drop, length-drop, drop_all, take_all}
-use Rattle.bounds.specs.Kept.{newest_of, slid}
+use Rattle.bounds.specs.Kept.{slid}
 
 one : (fs : List ℤ) → 1 ≤ length fs → (x : ℤ) × (take 1 fs ≡ x ∷ [])
 one [] h = absurd (omega arith)

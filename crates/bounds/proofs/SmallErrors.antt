@@ -1,5 +1,5 @@
 -- A response within 1 kW of the curve errs by at most 1,000 millionths. Assumes nothing.
-use Rattle.std.proofs.Common.{◌≡◌, ℕ, zero, suc, ◌+◌, ◌*◌, ◌/◌, ◌<◌, ◌≤◌, Bool, true, false, cond, ◌&&◌, ltb, List, ◌∷◌, ℤ, pos, negsuc, ◌-ℤ◌, ◌*ℤ◌, neg_ℤ, nat_abs, ◌≤ℤ◌, Some, None, Option, sym, refl, ap, ◌∙◌, subst, mul-le-mul_right, mul_assoc, mul_comm, mul-le-mul, mul-le-mul_left, arith}
+use Rattle.std.proofs.Common.{◌≡◌, ℕ, suc, ◌*◌, ◌≤◌, Bool, true, false, cond, ◌&&◌, ltb, List, ℤ, pos, negsuc, ◌-ℤ◌, ◌*ℤ◌, nat_abs, ◌≤ℤ◌, Some, None, sym, refl, ap, ◌∙◌, subst, mul-le-mul_right, mul_assoc, mul_comm, arith}
 use native.Mathlib.Nat.{div-le_of_le-mul}
 use lib.Signed.{lt_z}
 use Rattle.std.proofs.lemmas.Int.{ints, clamps}
@@ -15,7 +15,7 @@ use Rattle.rules.specs.declared.terms.Contract.{Contract}
 use Rattle.rules.specs.declared.terms.Contract.TheVariants.{Low, High}
 use Rattle.rules.specs.declared.terms.Terms.{Terms}
 use Rattle.bounds.specs.Bounds.{bounds}
-use Rattle.bounds.specs.Errors.{kilowatts, in_kilowatts, response, share, outside, distance, scaled, error, error_at}
+use Rattle.bounds.specs.Errors.{kilowatts, in_kilowatts, response, share, outside, distance, scaled, error_at}
 use Rattle.bounds.specs.Laws.{Follows}
 use Rattle.bounds.proofs.Encloses.{bounds_law}
 

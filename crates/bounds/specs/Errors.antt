@@ -1,6 +1,6 @@
 -- Errors of a response against its bounds. Figures in kW are not rounded: they stand in whole numbers of kW times full.
 -- Assumes nothing.
-use Rattle.std.specs.Prelude.{ℕ, ◌*◌, ◌/◌, Bool, cond, ◌&&◌, List, ℤ, pos, ◌-ℤ◌, ◌*ℤ◌, Some, None, Option, int_lt, unsigned_abs}
+use Rattle.std.specs.Prelude.{ℕ, ◌*◌, ◌/◌, cond, ◌&&◌, List, ℤ, pos, ◌-ℤ◌, ◌*ℤ◌, Some, None, Option, int_lt, unsigned_abs}
 use Rattle.std.specs.Int.{int_max, int_min}
 use Rattle.curve.specs.Shape.{Shape}
 use Rattle.curve.specs.declared.one_sided.Sides.{Sides}

@@ -1,5 +1,5 @@
 -- Grace: the readings for which the bounds are as wide as the held contracts allow. Assumes nothing.
-use Rattle.std.specs.Prelude.{ℕ, zero, suc, Bool, true, false, cond, not, ◌||◌, List, [], ◌∷◌}
+use Rattle.std.specs.Prelude.{ℕ, zero, suc, Bool, true, false, ◌||◌, List, [], ◌∷◌}
 use Rattle.curve.specs.declared.one_sided.Sides.{Sides}
 use Rattle.rules.specs.Flags.{brings_back}
 use Rattle.rules.specs.declared.reading.Reading.{Reading}

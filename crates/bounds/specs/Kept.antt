@@ -1,5 +1,5 @@
 -- What is kept from reading to reading, and what it stands for. Assumes nothing.
-use Rattle.std.specs.Prelude.{◌≡◌, ℕ, zero, suc, ◌-◌, Bool, true, false, cond, List, [], ◌∷◌, ◌++◌, length, drop, ℤ, Some, None, Option}
+use Rattle.std.specs.Prelude.{ℕ, zero, suc, ◌-◌, Bool, true, false, cond, List, [], ◌∷◌, ◌++◌, length, drop, ℤ, Some, None, Option}
 use Rattle.bounds.specs.declared.kept_window.Window.{Window}
 use Rattle.curve.specs.declared.one_sided.Sides.{Sides}
 use Rattle.rules.specs.Flags.{brings_back}

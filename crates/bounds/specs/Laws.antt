@@ -1,10 +1,9 @@
 -- What can be said of bounds and errors in the subject's own words. Assumes nothing.
-use Rattle.std.specs.Prelude.{◌≡◌, ℕ, ◌≤◌, List, ◌∷◌, ℤ, pos, ◌-ℤ◌, ◌≤ℤ◌, unsigned_abs}
+use Rattle.std.specs.Prelude.{◌≤◌, List, ◌∷◌, ℤ, pos, ◌-ℤ◌, ◌≤ℤ◌, unsigned_abs}
 use Rattle.std.specs.List.{ContainsAt as Has}
-use Rattle.curve.specs.Shape.{Shape, IsCurve}
+use Rattle.curve.specs.Shape.{Shape}
 use Rattle.curve.specs.Sides.{sided}
 use Rattle.curve.specs.declared.one_sided.Sides.{Sides}
-use Rattle.rules.specs.Terms.{sides}
 use Rattle.rules.specs.declared.reading.Reading.{Reading}
 use Rattle.rules.specs.declared.terms.Terms.{Terms}
 use Rattle.bounds.specs.Bounds.{bounds, top, bottom}

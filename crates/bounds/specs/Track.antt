@@ -1,5 +1,5 @@
 -- What is kept of a history to hold the next reading against. Assumes nothing.
-use Rattle.std.specs.Prelude.{◌≡◌, ℕ, List, [], ◌∷◌, ℤ, pos, Some, None, Option}
+use Rattle.std.specs.Prelude.{◌≡◌, ℕ, List, [], ◌∷◌, ℤ, Some, None, Option}
 use Rattle.curve.specs.Shape.{Shape}
 use Rattle.curve.specs.declared.one_sided.Sides.{Sides}
 use Rattle.rules.specs.declared.accepted.Accepted.{Accepted}

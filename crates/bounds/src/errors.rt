@@ -44,9 +44,9 @@ fn share(held: Sides, contract: Contract, kilowatts: i64) -> i64
 
 // The distance outside the bounds, and 0 inside.
 fn outside(lower: i64, upper: i64, response: i64) -> u64
-    requires negsuc_bound { (negsuc 1999999999999 ≤ℤ lower) × (lower ≤ℤ pos 2000000000000) }
-    requires negsuc_bound_2 { (negsuc 1999999999999 ≤ℤ upper) × (upper ≤ℤ pos 2000000000000) }
-    requires negsuc_bound_3 { (negsuc 1999999999999 ≤ℤ response) × (response ≤ℤ pos 2000000000000) }
+    requires lower_within { (negsuc 1999999999999 ≤ℤ lower) × (lower ≤ℤ pos 2000000000000) }
+    requires upper_within { (negsuc 1999999999999 ≤ℤ upper) × (upper ≤ℤ pos 2000000000000) }
+    requires response_within { (negsuc 1999999999999 ≤ℤ response) × (response ≤ℤ pos 2000000000000) }
     ensures value { result ≡ outside (lower, upper) response }
     ensures bound { result ≤ 4000000000000 }
 {

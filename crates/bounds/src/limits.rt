@@ -49,8 +49,8 @@ pub(crate) fn raw_bounds<K: Curve>(
 
 // The lower bound rises by at most the ramp.
 pub(crate) fn slow_lower(raw: i64, last: i64, ramp: i64) -> i64
-    requires negsuc_bound { (negsuc 999999 ≤ℤ raw) × ((raw ≤ℤ pos 1000000) × ((negsuc 999999 ≤ℤ last) × (last ≤ℤ pos 1000000))) }
-    requires pos_bound { (pos 1 ≤ℤ ramp) × (ramp ≤ℤ pos 1000000) }
+    requires parts_within { (negsuc 999999 ≤ℤ raw) × ((raw ≤ℤ pos 1000000) × ((negsuc 999999 ≤ℤ last) × (last ≤ℤ pos 1000000))) }
+    requires ramp_within { (pos 1 ≤ℤ ramp) × (ramp ≤ℤ pos 1000000) }
     ensures value { result ≡ int_min raw (last +ℤ ramp) }
     ensures bounds { (negsuc 999999 ≤ℤ result) × (result ≤ℤ pos 1000000) }
 {
@@ -59,8 +59,8 @@ pub(crate) fn slow_lower(raw: i64, last: i64, ramp: i64) -> i64
 
 // The upper bound falls by at most the ramp.
 pub(crate) fn slow_upper(raw: i64, last: i64, ramp: i64) -> i64
-    requires negsuc_bound { (negsuc 999999 ≤ℤ raw) × ((raw ≤ℤ pos 1000000) × ((negsuc 999999 ≤ℤ last) × (last ≤ℤ pos 1000000))) }
-    requires pos_bound { (pos 1 ≤ℤ ramp) × (ramp ≤ℤ pos 1000000) }
+    requires parts_within { (negsuc 999999 ≤ℤ raw) × ((raw ≤ℤ pos 1000000) × ((negsuc 999999 ≤ℤ last) × (last ≤ℤ pos 1000000))) }
+    requires ramp_within { (pos 1 ≤ℤ ramp) × (ramp ≤ℤ pos 1000000) }
     ensures value { result ≡ int_max raw (last -ℤ ramp) }
     ensures bounds { (negsuc 999999 ≤ℤ result) × (result ≤ℤ pos 1000000) }
 {

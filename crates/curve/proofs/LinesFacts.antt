@@ -1,8 +1,8 @@
 -- What accepted points tell, point by point.
-use Rattle.std.proofs.Common.{◌≡◌, ℕ, ◌<◌, ◌≤◌, leb, List, [], ◌∷◌, ◌++◌, ℤ, None, refl, ◌∙◌, arith}
+use Rattle.std.proofs.Common.{◌≡◌, ℕ, ◌<◌, leb, List, [], ◌∷◌, ◌++◌, ℤ, None, ◌∙◌, arith}
 use Rattle.std.proofs.lemmas.Bool.{cond-true, cond-false, le-leb, lt-leb}
 use Rattle.curve.specs.Loading.{refused_points}
-use Rattle.curve.specs.Points.{at, height, line, beyond, along, Onward}
+use Rattle.curve.specs.Points.{at, line, beyond, along, Onward}
 use Rattle.curve.specs.Laws.{JoinedByLines}
 use Rattle.curve.specs.declared.loading.Point.{Point}
 use Rattle.curve.specs.AcceptedPoints.{all_met}

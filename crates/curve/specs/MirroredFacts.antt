@@ -3,7 +3,7 @@ use Rattle.std.specs.Prelude.{◌≡◌, ℕ, suc, ◌≤◌, cond, ℤ, pos, ne
 use Rattle.std.proofs.Common.{ap, arith}
 use Rattle.std.proofs.Math.Dec.{leb-suc-zero}
 use Rattle.std.proofs.lemmas.Int.{ints, clamps}
-use Rattle.curve.specs.Shape.{Shape, IsCurve, nominal, lowest, highest}
+use Rattle.curve.specs.Shape.{IsCurve, lowest, highest}
 use Rattle.curve.specs.Deviations.{deviation, mirrored}
 
 mirrored_pos : (told : ℕ → ℕ) (d : ℕ) → mirrored told (pos d) ≡ pos (told d)

@@ -1,5 +1,5 @@
 -- What the held contracts leave of a curve is again a curve.
-use Rattle.std.specs.Prelude.{◌≡◌, ℕ, ◌≤◌, ℤ, pos, neg_ℤ, ◌≤ℤ◌}
+use Rattle.std.specs.Prelude.{◌≡◌, ℕ, ℤ, pos, neg_ℤ, ◌≤ℤ◌}
 use Rattle.std.proofs.Common.{ap, arith}
 use Rattle.std.proofs.lemmas.Int.{ints, clamps}
 use Rattle.curve.specs.Shape.{Shape, IsCurve, nominal}

@@ -1,6 +1,6 @@
 -- A curve seen from the contracts that are held: a low contract alone answers only low frequency, a high contract alone
 -- only high frequency, both together the whole curve. Assumes nothing.
-use Rattle.std.specs.Prelude.{ℕ, ℤ, pos, neg_ℤ}
+use Rattle.std.specs.Prelude.{ℤ, pos}
 use Rattle.std.specs.Int.{int_max, int_min}
 use Rattle.curve.specs.Shape.{Shape}
 use Rattle.curve.specs.declared.one_sided.Sides.{Sides}

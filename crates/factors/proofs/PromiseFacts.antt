@@ -10,7 +10,7 @@ use Rattle.rules.specs.declared.terms.Contract.{Contract}
 use Rattle.rules.specs.declared.terms.Contract.TheVariants.{Low, High}
 use Rattle.rules.specs.declared.terms.Terms.{Terms}
 use Rattle.rules.proofs.TermsFacts.{facts}
-use Rattle.factors.specs.Factors.{whole, factor, payable, figures, period_factor, all_figures, block_factor}
+use Rattle.factors.specs.Factors.{whole, payable, figures, period_factor, all_figures, block_factor}
 use Rattle.factors.specs.Money.{nearest, earning, earned, sum, paid, payment, settled}
 use Rattle.factors.specs.Periods.{readings, throughout}
 use Rattle.factors.specs.Promises.{NoSmaller, WithinA, Four, WorseErrorsNoBetterFactors, WorseErrorsNoLargerPayment, WithinAIsWhole, BelowWholeExactlyWhereFourErr, WorstIsLargest, Promised}

@@ -1,14 +1,12 @@
 -- What is known of accepted readings. Assumes nothing.
-use Rattle.std.proofs.Common.{◌≡◌, ℕ, ◌*◌, ◌<◌, ◌≤◌, Bool, true, false, ◌&&◌, ℤ, pos, negsuc, ◌≤ℤ◌, ◌<ℤ◌, Some, None, Option, refl, ap, ◌∙◌, arith}
+use Rattle.std.proofs.Common.{◌≡◌, ℕ, ◌*◌, ◌≤◌, true, ◌&&◌, ℤ, pos, negsuc, ◌≤ℤ◌, None, Option, arith}
 use lib.Signed.{le_z, lt_z}
 use Rattle.std.proofs.lemmas.Int.{ints}
 use Rattle.std.proofs.lemmas.Bool.{and_parts, and_from}
 use Rattle.rules.specs.Check.{within}
-use Rattle.rules.specs.Terms.{periods}
 use Rattle.rules.specs.ReadingsCheck.{refused_reading, frequency_fits, power_fits, baseline_fits, flag_fits, after_last, in_block, in_range}
 use Rattle.rules.specs.declared.terms.Terms.{Terms}
 use Rattle.rules.specs.declared.reading.Reading.{Reading}
-use Rattle.rules.specs.declared.reading.SampleFault.{SampleFault}
 use Rattle.rules.specs.declared.reading.SampleFault.TheVariants.{Frequency, Power, Baseline, Flag, NotAfterLast, OutsideBlock}
 use Rattle.rules.proofs.Checks.{unless_none, within_both}
 use Rattle.rules.proofs.TermsFacts as terms

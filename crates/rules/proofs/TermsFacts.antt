@@ -1,13 +1,12 @@
 -- What is known of terms that the check refuses nothing of. Assumes nothing.
-use Rattle.std.proofs.Common.{◌≡◌, ℕ, ◌+◌, ◌<◌, ◌≤◌, Bool, true, false, not, ◌&&◌, ◌⊎◌, ℤ, pos, negsuc, nat_abs, ◌≤ℤ◌, ◌<ℤ◌, is_some, Some, None, Option, sym, refl, ap, ◌∙◌, subst, inl, inr, arith, w64, to_z, of_z}
+use Rattle.std.proofs.Common.{◌≡◌, ℕ, ◌+◌, ◌<◌, ◌≤◌, true, not, ◌&&◌, ℤ, pos, nat_abs, ◌≤ℤ◌, ◌<ℤ◌, is_some, Some, None, Option, refl, ap, arith, w64, to_z, of_z}
 use lib.Signed.{le_z, lt_z}
 use Rattle.std.proofs.lemmas.Int.{ints}
-use Rattle.std.proofs.lemmas.Bool.{and_parts, not-true}
-use Rattle.rules.specs.Check.{unless, within, same}
+use Rattle.std.proofs.lemmas.Bool.{and_parts}
+use Rattle.rules.specs.Check.{within, same}
 use Rattle.rules.specs.Terms.{handed_in}
 use Rattle.rules.specs.TermsCheck.{refused_terms, handed, sound, some_held, quantities_fit, prices_fit, a_fits, b_fits, length_fits, needed_fits}
 use Rattle.rules.specs.declared.terms_input.TermsInput.{TermsInput}
-use Rattle.rules.specs.declared.terms_input.TermsFault.{TermsFault}
 use Rattle.rules.specs.declared.terms_input.TermsFault.TheVariants.{NothingHeld, Quantity, Price, ToleranceA, ToleranceB, PeriodLength, LeastReadings}
 use Rattle.rules.specs.declared.terms.Terms.{Terms}
 use Rattle.rules.proofs.Checks.{unless_none, within_both}

@@ -1,5 +1,5 @@
 -- Checks in a stated order: the first that fails gives the refusal. Assumes nothing.
-use Rattle.std.specs.Prelude.{Bool, cond, ◌&&◌, ℤ, Some, None, Option, int_le}
+use Rattle.std.specs.Prelude.{Bool, cond, ◌&&◌, ℤ, Some, Option, int_le}
 
 -- The fault, unless the test holds; then whatever the checks after it say.
 abbrev pub unless : {F : Type 0} → Bool → F → Option F → Option F

@@ -1,5 +1,5 @@
 -- Which contracts a flag makes available, and the change of flags that brings a held contract back. Assumes nothing.
-use Rattle.std.specs.Prelude.{ℕ, ◌/◌, ◌%◌, Bool, not, ◌&&◌, ◌||◌, ℤ, ◌==◌, unsigned_abs}
+use Rattle.std.specs.Prelude.{◌/◌, ◌%◌, Bool, not, ◌&&◌, ◌||◌, ℤ, ◌==◌, unsigned_abs}
 use Rattle.curve.specs.declared.one_sided.Sides.{Sides}
 use Rattle.curve.specs.declared.one_sided.Sides.TheVariants.{Low as low_alone, High as high_alone, Both}
 use Rattle.rules.specs.declared.terms.Contract.{Contract}

@@ -1,7 +1,6 @@
 -- The check of terms that are handed in. Assumes nothing.
 use Rattle.std.specs.Prelude.{ℕ, Bool, not, ◌&&◌, ℤ, pos, is_some, None, Option, int_le, int_lt}
 use Rattle.rules.specs.Check.{unless, within, same}
-use Rattle.rules.specs.declared.terms_input.Offer.{Offer}
 use Rattle.rules.specs.declared.terms_input.TermsInput.{TermsInput}
 use Rattle.rules.specs.declared.terms_input.TermsFault.{TermsFault}
 use Rattle.rules.specs.declared.terms_input.TermsFault.TheVariants.{NothingHeld, Quantity, Price, ToleranceA, ToleranceB, PeriodLength, LeastReadings}

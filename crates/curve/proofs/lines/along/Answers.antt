@@ -1,5 +1,5 @@
 -- Beyond the first point the others decide.
-use Rattle.std.proofs.Common.{◌≡◌, ◌<◌, ◌≤◌, get_or, sym, ap, ◌∙◌, arith}
+use Rattle.std.proofs.Common.{◌≡◌, ◌<◌, get_or, ◌∙◌, arith}
 use Rattle.curve.specs.Points.{at, along}
 use Rattle.curve.proofs.LoadingSteps.{no_point}
 use Rattle.curve.specs.PointsFacts.{first_onward, first_along, along_most}

@@ -1,5 +1,5 @@
 -- The loop goes from point to point up to the line on which the deviation lies, or past the last.
-use Rattle.std.proofs.Common.{◌≡◌, ◌<◌, ◌≤◌, get_or, sym, ap, ◌∙◌, arith}
+use Rattle.std.proofs.Common.{◌<◌, ◌≤◌, get_or, sym, ◌∙◌, arith}
 use Rattle.std.proofs.lemmas.List.{at_drop_all}
 use Rattle.curve.specs.Points.{at, beyond}
 use Rattle.curve.proofs.LoadingSteps.{no_point}

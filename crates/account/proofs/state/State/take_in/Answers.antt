@@ -1,4 +1,4 @@
-use Rattle.std.proofs.Common.{◌≡◌, ℕ, ◌<◌, List, ◌∷◌, length, sym, ◌∙◌, subst}
+use Rattle.std.proofs.Common.{◌<◌, List, ◌∷◌, sym, ◌∙◌, subst}
 use Rattle.bounds.specs.Track.{Tracks}
 use Rattle.rules.specs.Terms.{sides}
 use Rattle.rules.specs.declared.terms.Contract.TheVariants.{Low, High}

@@ -1,5 +1,4 @@
 use Rattle.std.proofs.Common.{pos, unwrap_or, ap, ◌∙◌, arith, rules}
-use lib.Signed.{lt_z}
 use Rattle.std.proofs.lemmas.Int.{ints}
 use Rattle.bounds.specs.Window.{lowest}
 use Rattle.bounds.proofs.Slides.{part}

@@ -1,5 +1,5 @@
 -- Points that were checked are such as the curve may hold.
-use Rattle.std.proofs.Common.{◌≡◌, ℤ, None, w64}
+use Rattle.std.proofs.Common.{◌≡◌, None, w64}
 use Rattle.std.proofs.lemmas.Int.{to_z-of_z}
 use Rattle.curve.specs.Loading.{refused_points}
 use Rattle.curve.specs.AcceptedPoints.{all_met, none_accepted}

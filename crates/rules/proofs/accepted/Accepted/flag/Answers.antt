@@ -1,5 +1,4 @@
-use Rattle.std.proofs.Common.{arith, rules}
-use Rattle.std.proofs.lemmas.Int.{ints}
+use Rattle.std.proofs.Common.{rules}
 use Rattle.rules.proofs.ReadingsFacts.{facts}
 use Rattle.rules.proofs.accepted.Accepted.flag.Goals as goal
 

@@ -1,4 +1,4 @@
-use Rattle.std.proofs.Common.{refl, rules}
+use Rattle.std.proofs.Common.{rules}
 use Rattle.rules.proofs.TermsFacts.{facts}
 use Rattle.rules.proofs.terms.Terms.of.Goals as goal
 
