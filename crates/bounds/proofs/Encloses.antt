@@ -2,12 +2,12 @@
 use Rattle.std.proofs.Common.{◌≡◌, ℕ, Bool, true, false, cond, List, [], ◌∷◌, map, reverse, get_or, ℤ, pos, ◌+ℤ◌, ◌-ℤ◌, neg_ℤ, ◌≤ℤ◌, sym, ap, ◌∙◌, subst, arith}
 use lib.Signed.{lt_z}
 use Rattle.std.proofs.lemmas.List.MinMax.{IsFirstBest-from_best_of, IsStrictWeakOrder-flip}
-use Rattle.std.proofs.ByRecursion.{has_push}
+use Rattle.std.proofs.lemmas.List.Elements.{Contains-push, at_from_Contains}
 use Rattle.std.proofs.lemmas.List.{reverse-append}
 use Rattle.std.proofs.lemmas.Int.{ints, clamps}
 use Rattle.std.specs.Int.{int_max, int_min}
 use Rattle.std.specs.Cmp.{IsStrictWeakOrder}
-use Rattle.std.specs.List.{best_of, ContainsAt as Has}
+use Rattle.std.specs.List.{best_of, Contains}
 use Rattle.curve.specs.Shape.{Shape, IsCurve}
 use Rattle.curve.specs.Sides.{side, sided}
 use Rattle.curve.specs.declared.one_sided.Sides.{Sides}
@@ -28,19 +28,21 @@ falling = IsStrictWeakOrder-flip lt_z rising
 no_less : (x y : ℤ) → lt_z x y ≡ false → y ≤ℤ x
 no_less x y e = grind (arith, ints)
 
-pub lowest_is : (fs : List ℤ) (f : ℤ) → Has fs f → lowest fs ≤ℤ f
-lowest_is [] f (k, l, at) = absurd (omega arith)
-lowest_is (x ∷ xs) f (k, l, at) =
+pub lowest_is : (fs : List ℤ) (f : ℤ) → Contains fs f → lowest fs ≤ℤ f
+lowest_is [] f m = absurd (omega (arith, m.1))
+lowest_is (x ∷ xs) f m =
+    let at = at_from_Contains (x ∷ xs) f m in
     let b = IsFirstBest-from_best_of rising x xs in
-    let e : lt_z f (best_of lt_z x xs) ≡ false = ap (λ y. lt_z y (best_of lt_z x xs)) (sym (at x)) ∙ ap (lt_z (get_or (x ∷ xs) k x)) (sym b.2) ∙ b.1.1 k x l in
+    let e : lt_z f (best_of lt_z x xs) ≡ false = ap (λ y. lt_z y (best_of lt_z x xs)) (sym (at.2 x)) ∙ ap (lt_z (get_or (x ∷ xs) at.0 x)) (sym b.2) ∙ b.1.1 at.0 x at.1 in
     no_less f (best_of lt_z x xs) e
 
-pub highest_is : (fs : List ℤ) (f : ℤ) → Has fs f → f ≤ℤ highest fs
-highest_is [] f (k, l, at) = absurd (omega arith)
-highest_is (x ∷ xs) f (k, l, at) =
+pub highest_is : (fs : List ℤ) (f : ℤ) → Contains fs f → f ≤ℤ highest fs
+highest_is [] f m = absurd (omega (arith, m.1))
+highest_is (x ∷ xs) f m =
+    let at = at_from_Contains (x ∷ xs) f m in
     let b = IsFirstBest-from_best_of falling x xs in
     let top' = best_of (λ x y. lt_z y x) x xs in
-    let e : lt_z top' f ≡ false = ap (λ y. lt_z top' y) (sym (at x)) ∙ ap (λ y. lt_z y (get_or (x ∷ xs) k x)) (sym b.2) ∙ b.1.1 k x l in
+    let e : lt_z top' f ≡ false = ap (λ y. lt_z top' y) (sym (at.2 x)) ∙ ap (λ y. lt_z y (get_or (x ∷ xs) at.0 x)) (sym b.2) ∙ b.1.1 at.0 x at.1 in
     no_less top' f e
 
 -- what a curve seen from the held contracts tells lies within bottom and top
@@ -56,11 +58,11 @@ inside : (held : Sides) (s : Shape) → IsCurve s → Inside held (sided held s)
 inside held s c f = side_inside held s.full (s.parts f) (c.least_parts f) (c.most_parts f)
 
 module _ (held : Sides) (s : Shape) (curve : IsCurve s) (in' : Inside held s) where
-  raw_encloses : (g : Bool) (fs : List ℤ) (f : ℤ) → Has fs f → ((raw held s g fs).0 ≤ℤ s.parts f) × (s.parts f ≤ℤ (raw held s g fs).1)
+  raw_encloses : (g : Bool) (fs : List ℤ) (f : ℤ) → Contains fs f → ((raw held s g fs).0 ≤ℤ s.parts f) × (s.parts f ≤ℤ (raw held s g fs).1)
   raw_encloses true fs f m = in' f
   raw_encloses false fs f m = (curve.falls f (highest fs) (highest_is fs f m), curve.falls (lowest fs) f (lowest_is fs f m))
 
-  encloses : (r : Reading) (h : List Reading) (f : ℤ) → Has (frequencies s.lag (r ∷ h)) f → ((bounds held s r h).0 ≤ℤ s.parts f) × (s.parts f ≤ℤ (bounds held s r h).1)
+  encloses : (r : Reading) (h : List Reading) (f : ℤ) → Contains (frequencies s.lag (r ∷ h)) f → ((bounds held s r h).0 ≤ℤ s.parts f) × (s.parts f ≤ℤ (bounds held s r h).1)
   encloses r [] f m = raw_encloses (grace held s.lag (r ∷ [])) (frequencies s.lag (r ∷ [])) f m
   encloses r (p ∷ h) f m =
       let e = raw_encloses (grace held s.lag (r ∷ p ∷ h)) (frequencies s.lag (r ∷ p ∷ h)) f m in
@@ -73,10 +75,10 @@ module _ (held : Sides) (s : Shape) (curve : IsCurve s) (in' : Inside held s) wh
       over_max x y z h = omega (arith, ints, clamps)
 
 -- the newest frequency stands in its window
-own : (lag : ℕ) (r : Reading) (h : List Reading) → Has (frequencies lag (r ∷ h)) r.frequency
+own : (lag : ℕ) (r : Reading) (h : List Reading) → Contains (frequencies lag (r ∷ h)) r.frequency
 own lag r h =
     let rest = map (λ (x : Reading). x.frequency) (cond (gap r h) [] (window lag h)) in
-    subst (λ xs. Has xs r.frequency) (sym (reverse-append (r.frequency ∷ []) rest)) (has_push (reverse rest) r.frequency)
+    subst (λ xs. Contains xs r.frequency) (sym (reverse-append (r.frequency ∷ []) rest)) (Contains-push (reverse rest) r.frequency)
 
 -- the bounds stay within bottom and top
 between : (b t x y : ℤ) (n : ℕ) → b ≤ℤ x → b ≤ℤ y → b ≤ℤ int_min x (y +ℤ pos n)

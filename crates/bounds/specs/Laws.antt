@@ -1,6 +1,5 @@
 -- What can be said of bounds and errors in the subject's own words. Assumes nothing.
-use Rattle.std.specs.Prelude.{◌≤◌, List, ◌∷◌, ℤ, pos, ◌-ℤ◌, ◌≤ℤ◌, unsigned_abs}
-use Rattle.std.specs.List.{ContainsAt as Has}
+use Rattle.std.specs.Prelude.{◌≤◌, List, ◌∷◌, ℤ, pos, ◌-ℤ◌, ◌≤ℤ◌, unsigned_abs, Contains}
 use Rattle.curve.specs.Shape.{Shape}
 use Rattle.curve.specs.Sides.{sided}
 use Rattle.curve.specs.declared.one_sided.Sides.{Sides}
@@ -16,10 +15,10 @@ pub record BoundsLaw (held : Sides) (s : Shape) : Type 0 where
   pub ordered : (r : Reading) (h : List Reading) → (bounds held (sided held s) r h).0 ≤ℤ (bounds held (sided held s) r h).1
   pub above_bottom : (r : Reading) (h : List Reading) → bottom held (pos s.full) ≤ℤ (bounds held (sided held s) r h).0
   pub below_top : (r : Reading) (h : List Reading) → (bounds held (sided held s) r h).1 ≤ℤ top held (pos s.full)
-  pub lower : (r : Reading) (h : List Reading) (f : ℤ) → Has (frequencies s.lag (r ∷ h)) f → (bounds held (sided held s) r h).0 ≤ℤ (sided held s).parts f
-  pub upper : (r : Reading) (h : List Reading) (f : ℤ) → Has (frequencies s.lag (r ∷ h)) f → (sided held s).parts f ≤ℤ (bounds held (sided held s) r h).1
+  pub lower : (r : Reading) (h : List Reading) (f : ℤ) → Contains (frequencies s.lag (r ∷ h)) f → (bounds held (sided held s) r h).0 ≤ℤ (sided held s).parts f
+  pub upper : (r : Reading) (h : List Reading) (f : ℤ) → Contains (frequencies s.lag (r ∷ h)) f → (sided held s).parts f ≤ℤ (bounds held (sided held s) r h).1
 
 -- The response is within 1 kW of the curve times the quantity, at the frequency of some reading in the window. (Both sides
 -- are multiplied by full, and so is the 1 kW.)
 abbrev pub Follows : Terms → Shape → Reading → List Reading → Type 0
-Follows t s r h = (f : ℤ) × Has (frequencies s.lag (r ∷ h)) f × (unsigned_abs (response s.full r -ℤ kilowatts t (s.parts f)) ≤ s.full)
+Follows t s r h = (f : ℤ) × Contains (frequencies s.lag (r ∷ h)) f × (unsigned_abs (response s.full r -ℤ kilowatts t (s.parts f)) ≤ s.full)

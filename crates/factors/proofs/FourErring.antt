@@ -1,6 +1,6 @@
 -- A rolling error of more than a stands where four successive readings of one period err by more than a. Assumes nothing.
 use Rattle.std.proofs.Common.{◌≡◌, ℕ, zero, suc, ◌+◌, ◌<◌, ◌≤◌, Bool, true, false, cond, eqb, ltb, List, [], ◌∷◌, length, Some, None, Option, sym, refl, ap, subst, arith}
-use Rattle.std.specs.List.{best_of, AllByRecursion as All}
+use Rattle.std.specs.List.{best_of, AllByRecursion}
 use Rattle.std.proofs.lemmas.Bool.{and_parts, and_from, eqb-true, eq-eqb, cond-true}
 use Rattle.std.proofs.lemmas.Bool.Decides.{nat_tests}
 use Rattle.rules.specs.Least.{least}
@@ -19,7 +19,7 @@ Erring a (suc n) [] = ⊥
 Erring a (suc n) (j ∷ js) = Over a j.error × Linked n j js × Erring a n js
 
 abbrev Full : ℕ → ℕ → List ℕ → Type 0
-Full a n es = (length es ≡ n) × All (λ e. a < e) es
+Full a n es = (length es ≡ n) × AllByRecursion (λ e. a < e) es
 
 -- their errors are then a full run, and from a full run they follow
 onto_full : (a n : ℕ) (o : Option ℕ) (es : List ℕ) → Over a o → Full a n es → Full a (suc n) (onto o es)
@@ -53,14 +53,14 @@ full_erring a (suc n) (j ∷ js) f =
     (p.0, q.0, full_erring a n js q.1)
 
 -- the least of some errors is above a exactly if all are
-best_over : (a x : ℕ) (es : List ℕ) → a < x → All (λ e. a < e) es → a < best_of ltb x es
+best_over : (a x : ℕ) (es : List ℕ) → a < x → AllByRecursion (λ e. a < e) es → a < best_of ltb x es
 best_over a x [] h hs = h
 best_over a x (e ∷ es) h hs =
     let k : a < e = hs.0 in
     let l : a < cond (ltb e x) e x = grind (arith, nat_tests) in
     best_over a (cond (ltb e x) e x) es l hs.1
 
-over_best : (a x : ℕ) (es : List ℕ) → a < best_of ltb x es → (a < x) × All (λ e. a < e) es
+over_best : (a x : ℕ) (es : List ℕ) → a < best_of ltb x es → (a < x) × AllByRecursion (λ e. a < e) es
 over_best a x [] h = (h, tt)
 over_best a x (e ∷ es) h =
     let rest = over_best a (cond (ltb e x) e x) es h in

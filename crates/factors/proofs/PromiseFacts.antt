@@ -1,8 +1,8 @@
 -- The promises on factors and payments. Assumes nothing.
-use Rattle.std.proofs.Common.{◌≡◌, ℕ, ◌+◌, ◌*◌, ◌/◌, ◌<◌, ◌≤◌, true, false, cond, ◌&&◌, leb, ◌⊎◌, List, [], ◌∷◌, ◌++◌, map, ℤ, pos, negsuc, ◌+ℤ◌, ◌*ℤ◌, ◌≤ℤ◌, sym, refl, ap, ◌∙◌, subst, inl, inr, le_refl, mul-le-mul_right, mul-le-mul, arith}
+use Rattle.std.proofs.Common.{◌≡◌, ℕ, ◌+◌, ◌*◌, ◌/◌, ◌<◌, ◌≤◌, true, false, cond, ◌&&◌, leb, ◌⊎◌, List, [], ◌∷◌, ◌++◌, map, get_or, ℤ, pos, negsuc, ◌+ℤ◌, ◌*ℤ◌, ◌≤ℤ◌, sym, refl, ap, ◌∙◌, subst, inl, inr, le_refl, mul-le-mul_right, mul-le-mul, arith}
 use lib.Ieee.Nearest.{div_mono}
-use Rattle.std.specs.List.{range_with_len, AllZip, AllByRecursion as All}
-use Rattle.std.proofs.ByRecursion.{All-map}
+use Rattle.std.specs.List.{range_with_len, All, AllZip}
+use Rattle.std.proofs.lemmas.List.Elements.{All-map, recursion_from_All}
 use Rattle.std.proofs.lemmas.Int.{ints}
 use Rattle.std.proofs.lemmas.Bool.{cases_lt}
 use Rattle.rules.specs.Terms.{periods, terms_of}
@@ -13,7 +13,7 @@ use Rattle.rules.proofs.TermsFacts.{facts}
 use Rattle.factors.specs.Factors.{whole, payable, figures, period_factor, all_figures, block_factor}
 use Rattle.factors.specs.Money.{nearest, earning, earned, sum, paid, payment, settled}
 use Rattle.factors.specs.Periods.{readings, throughout}
-use Rattle.factors.specs.Promises.{NoSmaller, WithinA, Four, WorseErrorsNoBetterFactors, WorseErrorsNoLargerPayment, WithinAIsWhole, BelowWholeExactlyWhereFourErr, WorstIsLargest, Promised}
+use Rattle.factors.specs.Promises.{NoSmaller, AtMost, WithinA, Four, WorseErrorsNoBetterFactors, WorseErrorsNoLargerPayment, WithinAIsWhole, BelowWholeExactlyWhereFourErr, WorstIsLargest, Promised}
 use Rattle.factors.specs.Worst.{unerring, worst, Reached, Largest}
 use Rattle.factors.specs.declared.judgement.Judgement.{Judgement}
 use Rattle.factors.specs.declared.settlement.PeriodFigures.{PeriodFigures}
@@ -27,10 +27,6 @@ use Rattle.factors.proofs.WorstFacts.{worst_at, reached, worst_largest}
 each_map : {X Y : Type 0} (R : Y → Y → Type 0) (g h : X → Y) → ((x : X) → R (g x) (h x)) → (xs : List X) → AllZip R (map g xs) (map h xs)
 each_map R g h is [] = tt
 each_map R g h is (x ∷ xs) = (is x, each_map R g h is xs)
-
-all_of : {X : Type 0} (P : X → Type 0) → ((x : X) → P x) → (xs : List X) → All P xs
-all_of P is [] = tt
-all_of P is (x ∷ xs) = (is x, all_of P is xs)
 
 -- worse errors, no better factors
 module _ (t : Terms) (js ks : List Judgement) (h : NoSmaller js ks) where
@@ -102,11 +98,11 @@ worse_errors_no_larger_payment t c js ks h =
 -- errors within A leave every factor whole
 module _ (t : Terms) (js : List Judgement) (h : WithinA t js) where
   pub period_whole : (p : ℕ) → period_factor t p js ≡ whole
-  period_whole p = factor_whole t.a t.b (facts t).rising (worst p js).error (worst_most t.a p js h)
+  period_whole p = factor_whole t.a t.b (facts t).rising (worst p js).error (worst_most t.a p js (recursion_from_All (λ (j : Judgement). AtMost t.a j.error) js h))
 
   all_whole : All (λ (f : PeriodFigures). f.factor ≡ whole) (all_figures t js)
   unfolding all_figures
-  all_whole = All-map (λ (f : PeriodFigures). f.factor ≡ whole) (λ p. figures t p js) (range_with_len 0 (periods t)) (all_of (λ p. period_factor t p js ≡ whole) period_whole (range_with_len 0 (periods t)))
+  all_whole = All-map (λ (f : PeriodFigures). f.factor ≡ whole) (λ p. figures t p js) (range_with_len 0 (periods t)) (λ k d l. period_whole (get_or (range_with_len 0 (periods t)) k d))
 
   pub block_whole : block_factor t js ≡ whole
   block_whole = let low = block_lowest t js in low.reached ∙ period_whole low.place
@@ -176,7 +172,7 @@ below_whole_exactly_where_four_err t c js = (below_then_four t js, four_then_bel
 -- each period's E
 pub worst_is_largest : (t : Terms) (c : Contract) (js : List Judgement) → WorstIsLargest js (settled t c js)
 unfolding all_figures
-worst_is_largest t c js = All-map (λ (f : PeriodFigures). Largest f.period js f.worst) (λ p. figures t p js) (range_with_len 0 (periods t)) (all_of (λ p. Largest p js (worst p js)) (λ p. worst_largest p js) (range_with_len 0 (periods t)))
+worst_is_largest t c js = All-map (λ (f : PeriodFigures). Largest f.period js f.worst) (λ p. figures t p js) (range_with_len 0 (periods t)) (λ k d l. worst_largest (get_or (range_with_len 0 (periods t)) k d) js)
 
 pub promised : (t : Terms) (c : Contract) (js : List Judgement) → Promised t c js (settled t c js)
 promised t c js = record {

@@ -1,6 +1,6 @@
 -- Errors that are not smaller give no smaller rolling errors, and the rest stays. Assumes nothing.
 use Rattle.std.proofs.Common.{◌≡◌, ℕ, zero, suc, ◌≤◌, max, Bool, true, false, cond, eqb, ltb, List, [], ◌∷◌, length, Some, None, Option, sym, refl, ap, ◌∙◌, subst, inl, inr, arith}
-use Rattle.std.specs.List.{best_of, AllZip, AllByRecursion as All}
+use Rattle.std.specs.List.{best_of, AllZip, AllByRecursion}
 use Rattle.std.proofs.lemmas.List.Elements.{length_all_zip}
 use Rattle.std.proofs.lemmas.Bool.{cases_lt, cond-true, cond-false, lt-ltb, le-ltb}
 use Rattle.std.proofs.lemmas.Bool.Decides.{nat_tests}
@@ -106,15 +106,15 @@ throughout_same p (j ∷ js) [] h = absurd h
 throughout_same p (j ∷ js) (k ∷ ks) h = rw (h.0.period, h.0.available, throughout_same p js ks h.1)
 
 -- where every error is at most a, so is every rolling error
-onto_most : (a : ℕ) (o : Option ℕ) (es : List ℕ) → AtMost a o → All (λ e. e ≤ a) es → All (λ e. e ≤ a) (onto o es)
+onto_most : (a : ℕ) (o : Option ℕ) (es : List ℕ) → AtMost a o → AllByRecursion (λ e. e ≤ a) es → AllByRecursion (λ e. e ≤ a) (onto o es)
 onto_most a None es h hs = tt
 onto_most a (Some e) es h hs = (h, hs)
 
-cond_most : (a : ℕ) (b : Bool) (es : List ℕ) → All (λ e. e ≤ a) es → All (λ e. e ≤ a) (cond b es [])
+cond_most : (a : ℕ) (b : Bool) (es : List ℕ) → AllByRecursion (λ e. e ≤ a) es → AllByRecursion (λ e. e ≤ a) (cond b es [])
 cond_most a true es h = h
 cond_most a false es h = tt
 
-run_most : (a n : ℕ) (js : List Judgement) → All (λ j. AtMost a j.error) js → All (λ e. e ≤ a) (run n js)
+run_most : (a n : ℕ) (js : List Judgement) → AllByRecursion (λ j. AtMost a j.error) js → AllByRecursion (λ e. e ≤ a) (run n js)
 run_most a zero js h = tt
 run_most a (suc n) [] h = tt
 run_most a (suc n) (j ∷ js) h = onto_most a j.error _ h.0 (cond_most a (joins j js) _ (run_most a n js h.1))
@@ -130,7 +130,7 @@ cond_at_most : (a : ℕ) (b : Bool) (o : Option ℕ) → AtMost a o → AtMost a
 cond_at_most a true o h = h
 cond_at_most a false o h = tt
 
-four_most : (a : ℕ) (es : List ℕ) → All (λ e. e ≤ a) es → AtMost a (least_of_four es)
+four_most : (a : ℕ) (es : List ℕ) → AllByRecursion (λ e. e ≤ a) es → AtMost a (least_of_four es)
 four_most a [] h = tt
 four_most a (e ∷ es) h =
     let least : best_of ltb e es ≤ a = omega (arith, best_first e es, h.0) in
@@ -144,7 +144,7 @@ cond_worst_most : (a : ℕ) (b : Bool) (w v : Worst) → w.error ≤ a → v.err
 cond_worst_most a true w v h k = h
 cond_worst_most a false w v h k = k
 
-pub worst_most : (a p : ℕ) (js : List Judgement) → All (λ j. AtMost a j.error) js → (worst p js).error ≤ a
+pub worst_most : (a p : ℕ) (js : List Judgement) → AllByRecursion (λ j. AtMost a j.error) js → (worst p js).error ≤ a
 worst_most a p [] h = omega arith
 worst_most a p (j ∷ js) h =
     let before = worst_most a p js h.1 in

@@ -1,6 +1,6 @@
 -- What holds of factors and payments, over the judgements of one contract, newest first. Assumes nothing.
-use Rattle.std.specs.Prelude.{◌≡◌, ℕ, ◌+◌, ◌<◌, ◌≤◌, List, ◌∷◌, ◌++◌, ◌≤ℤ◌, Some, None, Option}
-use Rattle.std.specs.List.{AllZip, AllByRecursion as All}
+use Rattle.std.specs.Prelude.{◌≡◌, ℕ, ◌+◌, ◌<◌, ◌≤◌, List, ◌∷◌, ◌++◌, ◌≤ℤ◌, Some, None, Option, All}
+use Rattle.std.specs.List.{AllZip}
 use Rattle.rules.specs.Terms.{periods}
 use Rattle.rules.specs.declared.terms.Contract.{Contract}
 use Rattle.rules.specs.declared.terms.Terms.{Terms}
