@@ -20,7 +20,7 @@ newest_of n xs = drop (length xs - n) xs
 
 -- One frequency more: after a gap it stands alone, and no more than lag stand before it.
 abbrev pub slid : ℕ → Bool → List ℤ → ℤ → List ℤ
-slid lag after-gap fs f = cond after-gap (f ∷ []) (newest_of lag fs ++ f ∷ [])
+slid lag after_gap fs f = cond after_gap (f ∷ []) (newest_of lag fs ++ f ∷ [])
 
 -- What a reading is, after the last one accepted.
 abbrev pub event : Sides → Option Reading → Reading → Event

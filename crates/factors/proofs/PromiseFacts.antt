@@ -28,6 +28,9 @@ each_map : {X Y : Type 0} (R : Y → Y → Type 0) (g h : X → Y) → ((x : X) 
 each_map R g h is [] = tt
 each_map R g h is (x ∷ xs) = (is x, each_map R g h is xs)
 
+all_of : {X : Type 0} (P : X → Type 0) → ((x : X) → P x) → (xs : List X) → All P xs
+all_of P is xs = λ k d l. is (get_or xs k d)
+
 -- worse errors, no better factors
 module _ (t : Terms) (js ks : List Judgement) (h : NoSmaller js ks) where
   pub period_no_better : (p : ℕ) → period_factor t p ks ≤ period_factor t p js
@@ -102,7 +105,7 @@ module _ (t : Terms) (js : List Judgement) (h : WithinA t js) where
 
   all_whole : All (λ (f : PeriodFigures). f.factor ≡ whole) (all_figures t js)
   unfolding all_figures
-  all_whole = All-map (λ (f : PeriodFigures). f.factor ≡ whole) (λ p. figures t p js) (range_with_len 0 (periods t)) (λ k d l. period_whole (get_or (range_with_len 0 (periods t)) k d))
+  all_whole = All-map (λ (f : PeriodFigures). f.factor ≡ whole) (λ p. figures t p js) (range_with_len 0 (periods t)) (all_of (λ p. period_factor t p js ≡ whole) period_whole (range_with_len 0 (periods t)))
 
   pub block_whole : block_factor t js ≡ whole
   block_whole = let low = block_lowest t js in low.reached ∙ period_whole low.place
@@ -172,7 +175,7 @@ below_whole_exactly_where_four_err t c js = (below_then_four t js, four_then_bel
 -- each period's E
 pub worst_is_largest : (t : Terms) (c : Contract) (js : List Judgement) → WorstIsLargest js (settled t c js)
 unfolding all_figures
-worst_is_largest t c js = All-map (λ (f : PeriodFigures). Largest f.period js f.worst) (λ p. figures t p js) (range_with_len 0 (periods t)) (λ k d l. worst_largest (get_or (range_with_len 0 (periods t)) k d) js)
+worst_is_largest t c js = All-map (λ (f : PeriodFigures). Largest f.period js f.worst) (λ p. figures t p js) (range_with_len 0 (periods t)) (all_of (λ p. Largest p js (worst p js)) (λ p. worst_largest p js) (range_with_len 0 (periods t)))
 
 pub promised : (t : Terms) (c : Contract) (js : List Judgement) → Promised t c js (settled t c js)
 promised t c js = record {

@@ -7,7 +7,7 @@ use Rattle.form.specs.declared.state.State.{State}
 use Rattle.form.specs.declared.state.State.TheVariants.{Start, Opened, Word, Gap, Minus, Number, After, Done, Stuck}
 use Rattle.form.proofs.RunFacts.{free_before}
 
--- One depth more. The tests are those of `item-begins`, of which the depth changes one.
+-- One depth more. The tests are those of `item_begins`, of which the depth changes one.
 deeper_item : (nought first minus opens shallow shallow' : Bool) (a b c d : State) → (shallow ≡ true → shallow' ≡ true)
     → stuck (cond nought a (cond first b (cond minus c (cond opens (cond shallow d Stuck) Stuck)))) ≡ false
     → cond nought a (cond first b (cond minus c (cond opens (cond shallow' d Stuck) Stuck)))

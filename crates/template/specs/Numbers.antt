@@ -1,6 +1,6 @@
 -- Numbers as text. Assumes nothing.
 --
--- The text of a number is the one that the standard library writes: `decimal n` is its digits, without a leading zero, and `signed z`
+-- The text of a number is the one that the standard library writes: `decimal n` is its digits, without a leading zero, and `signed_decimal z`
 -- has a minus before them where z is below 0.
 use Rattle.std.specs.Prelude.{◌≡◌, ℕ, suc, ◌+◌, ◌-◌, ◌*◌, ◌^◌, ◌<◌, ◌≤◌, Bool, true, false, cond, List, [], ◌∷◌, ◌++◌, length, drop, ℤ, Some, None, decimal, Option, nat_lt, unsigned_abs}
 use Rattle.std.specs.Char.{is_ascii_digit}
