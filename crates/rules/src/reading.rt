@@ -2,7 +2,7 @@
 ghost use Rattle.std.specs.Prelude.{◌≡◌, ◌≤◌};
 ghost use Rattle.rules.specs.ReadingsCheck.{refused_reading, sample_number, frequency_fits, power_fits, baseline_fits, flag_fits, after_last, in_block};
 
-use crate::order_of_checks::{unless, within};
+use crate::order_of_checks::unless;
 use crate::terms::Terms;
 
 // A reading of a battery: the tick of 50 ms, counted from 0 at the block's start; the frequency in mHz; power and baseline
@@ -20,31 +20,24 @@ pub struct Reading {
 #[derive(Clone, Copy, PartialEq, Eq, Debug)]
 pub enum SampleFault {
     // The frequency is outside 40,000 to 60,000.
-    Frequency,
+    Frequency = 13,
     // The power is outside -999,999 to 999,999.
-    Power,
+    Power = 14,
     // The baseline is outside -999,999 to 999,999.
-    Baseline,
+    Baseline = 15,
     // The flag is outside 0 to 3.
-    Flag,
+    Flag = 16,
     // The tick is not above that of the last accepted reading.
-    NotAfterLast,
+    NotAfterLast = 17,
     // The tick is before the block or past its last period.
-    OutsideBlock,
+    OutsideBlock = 18,
 }
 
 impl SampleFault {
     pub fn number(self) -> u32
         ensures { result ≡ sample_number self }
     {
-        match self {
-            SampleFault::Frequency => 13,
-            SampleFault::Power => 14,
-            SampleFault::Baseline => 15,
-            SampleFault::Flag => 16,
-            SampleFault::NotAfterLast => 17,
-            SampleFault::OutsideBlock => 18,
-        }
+        self as u32
     }
 }
 
@@ -52,25 +45,25 @@ impl Reading {
     fn frequency_fits(&self) -> bool
         ensures { result ≡ frequency_fits self.now }
     {
-        within(40_000, 60_000, self.frequency)
+        (40_000..=60_000).contains(&self.frequency)
     }
 
     fn power_fits(&self) -> bool
         ensures { result ≡ power_fits self.now }
     {
-        within(-999_999, 999_999, self.power)
+        (-999_999..=999_999).contains(&self.power)
     }
 
     fn baseline_fits(&self) -> bool
         ensures { result ≡ baseline_fits self.now }
     {
-        within(-999_999, 999_999, self.baseline)
+        (-999_999..=999_999).contains(&self.baseline)
     }
 
     fn flag_fits(&self) -> bool
         ensures { result ≡ flag_fits self.now }
     {
-        within(0, 3, self.flag)
+        (0..=3).contains(&self.flag)
     }
 
     fn after_last(&self, last: &Option<Reading>) -> bool
