@@ -1,9 +1,9 @@
 // Readings as they are handed in, and the check that they have to pass.
-ghost use Rattle.std.specs.Prelude.{◌≡◌, ◌≤◌};
+ghost use Rattle.std.specs.Prelude.{◌≡◌, ◌≤◌, Some, None, Ok, Err};
 ghost use Rattle.rules.specs.ReadingsCheck.{refused_reading, sample_number, frequency_fits, power_fits, baseline_fits, flag_fits, after_last, in_block};
 
-use crate::order_of_checks::unless;
 use crate::terms::Terms;
+use basics::require;
 
 // A reading of a battery: the tick of 50 ms, counted from 0 at the block's start; the frequency in mHz; power and baseline
 // in kW; and the flag, which says what is available: 0 neither contract, 1 low only, 2 high only, 3 both.
@@ -81,15 +81,16 @@ impl Reading {
         (self.tick >= 0) & (self.tick < terms.block_ticks())
     }
 
-    // The first refusal in the order of their numbers, if any fits.
-    pub fn first_refusal(&self, terms: &Terms, last: &Option<Reading>) -> Option<SampleFault>
-        ensures { result ≡ refused_reading terms.now last.now self.now }
+    // Nothing if the reading passes every check, else the first refusal in the order of their numbers; `last` is the last
+    // accepted reading before it.
+    pub fn check(&self, terms: &Terms, last: &Option<Reading>) -> Result<(), SampleFault>
+        ensures { elim result [ Ok _ ↦ refused_reading terms.now last.now self.now ≡ None | Err e ↦ refused_reading terms.now last.now self.now ≡ Some e ] }
     {
-        let outside = unless(self.in_block(terms), SampleFault::OutsideBlock, None);
-        let after = unless(self.after_last(last), SampleFault::NotAfterLast, outside);
-        let flag = unless(self.flag_fits(), SampleFault::Flag, after);
-        let baseline = unless(self.baseline_fits(), SampleFault::Baseline, flag);
-        let power = unless(self.power_fits(), SampleFault::Power, baseline);
-        unless(self.frequency_fits(), SampleFault::Frequency, power)
+        require(self.frequency_fits(), SampleFault::Frequency)?;
+        require(self.power_fits(), SampleFault::Power)?;
+        require(self.baseline_fits(), SampleFault::Baseline)?;
+        require(self.flag_fits(), SampleFault::Flag)?;
+        require(self.after_last(last), SampleFault::NotAfterLast)?;
+        require(self.in_block(terms), SampleFault::OutsideBlock)
     }
 }

@@ -1,5 +1,6 @@
 // The terms of a block, as they are once checked.
 ghost use Rattle.std.specs.Prelude.{◌≡◌, true};
+ghost use Rattle.rules.specs.Contract.{picked};
 ghost use Rattle.rules.specs.TermsCheck.{sound};
 
 pub mod check;
@@ -10,6 +11,18 @@ pub mod contracted;
 pub enum Contract {
     Low,
     High,
+}
+
+impl Contract {
+    // Of what is said of low and of high, what is said of this contract.
+    pub fn pick<T: Drop>(self, low: T, high: T) -> T
+        ensures { result ≡ picked self low high }
+    {
+        match self {
+            Contract::Low => low,
+            Contract::High => high,
+        }
+    }
 }
 
 // What is contracted: the quantity in MW, 0 where the contract is not held, and the price in pence per MW and hour.
@@ -32,5 +45,5 @@ pub struct Terms {
     b: u64,
     low: Held,
     high: Held,
-    ghost checked: { sound ticks needed a b low.quantity low.price high.quantity high.price ≡ true },
+    ghost checked: { sound ticks needed a b low high ≡ true },
 }

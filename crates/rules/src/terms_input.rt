@@ -1,8 +1,8 @@
 // Terms as they are handed in, and the check that they have to pass.
-ghost use Rattle.std.specs.Prelude.{◌≡◌};
+ghost use Rattle.std.specs.Prelude.{◌≡◌, Some, None, Ok, Err};
 ghost use Rattle.rules.specs.TermsCheck.{refused_terms, terms_number, some_held, quantities_fit, prices_fit, a_fits, b_fits, length_fits, needed_fits};
 
-use crate::order_of_checks::unless;
+use basics::require;
 
 // A contract's quantity in MW and price in pence per MW and hour, as handed in.
 #[derive(Clone, Copy)]
@@ -92,16 +92,16 @@ impl TermsInput {
         (1..=self.ticks).contains(&self.needed)
     }
 
-    // The first refusal in the order of their numbers, if any fits.
-    pub fn first_refusal(&self) -> Option<TermsFault>
-        ensures { result ≡ refused_terms self.now }
+    // Nothing if the terms pass every check, else the first refusal in the order of their numbers.
+    pub fn check(&self) -> Result<(), TermsFault>
+        ensures { elim result [ Ok _ ↦ refused_terms self.now ≡ None | Err e ↦ refused_terms self.now ≡ Some e ] }
     {
-        let needed = unless(self.needed_fits(), TermsFault::LeastReadings, None);
-        let length = unless(self.length_fits(), TermsFault::PeriodLength, needed);
-        let b = unless(self.b_fits(), TermsFault::ToleranceB, length);
-        let a = unless(self.a_fits(), TermsFault::ToleranceA, b);
-        let price = unless(self.prices_fit(), TermsFault::Price, a);
-        let quantity = unless(self.quantities_fit(), TermsFault::Quantity, price);
-        unless(self.some_held(), TermsFault::NothingHeld, quantity)
+        require(self.some_held(), TermsFault::NothingHeld)?;
+        require(self.quantities_fit(), TermsFault::Quantity)?;
+        require(self.prices_fit(), TermsFault::Price)?;
+        require(self.a_fits(), TermsFault::ToleranceA)?;
+        require(self.b_fits(), TermsFault::ToleranceB)?;
+        require(self.length_fits(), TermsFault::PeriodLength)?;
+        require(self.needed_fits(), TermsFault::LeastReadings)
     }
 }

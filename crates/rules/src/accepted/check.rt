@@ -16,9 +16,7 @@ impl Accepted {
     ) -> Result<Accepted, SampleFault>
         ensures { elim result [ Ok a ↦ (refused_reading terms.now last.now reading.now ≡ None) × (a.reading ≡ reading.now) | Err e ↦ refused_reading terms.now last.now reading.now ≡ Some e ] }
     {
-        if let Some(fault) = reading.first_refusal(terms, last) {
-            return Err(fault);
-        }
+        reading.check(terms, last)?;
         Ok(Accepted { reading: *reading })
     }
 
@@ -29,14 +27,17 @@ impl Accepted {
     }
 
     // Power less baseline, in kW.
+    #[tactic(auto, unfolding(crate::specs::ReadingsCheck::in_range))]
     pub fn response(&self) -> i64
         ensures value { result ≡ self.now.reading.power -ℤ self.now.reading.baseline }
-        ensures bounds { (negsuc 1999997 ≤ℤ result) × (result ≤ℤ pos 1999998) }
+        ensures least { negsuc 1999997 ≤ℤ result }
+        ensures most { result ≤ℤ pos 1999998 }
     {
         self.reading.power - self.reading.baseline
     }
 
     // The flag as a place in a table.
+    #[tactic(auto, unfolding(crate::specs::ReadingsCheck::in_range))]
     pub fn flag(&self) -> usize
         ensures value { result ≡ unsigned_abs self.now.reading.flag }
         ensures bound { result < 4 }
@@ -45,6 +46,7 @@ impl Accepted {
     }
 
     // The tick as a count from the block's start.
+    #[tactic(auto, unfolding(crate::specs::ReadingsCheck::in_range))]
     pub fn tick(&self) -> u64
         ensures value { pos result ≡ self.now.reading.tick }
         ensures bound { result < 288000 }
