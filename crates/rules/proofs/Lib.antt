@@ -1,4 +1,3 @@
 pub mod Checks
-pub mod FlagTables
 pub mod ReadingsFacts
 pub mod TermsFacts

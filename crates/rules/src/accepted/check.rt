@@ -9,6 +9,7 @@ use crate::terms::{Contract, Terms};
 
 impl Accepted {
     // The accepted reading, or the first refusal in the order of their numbers; `last` is the last accepted one before it.
+    #[tactic(auto, using(crate::proofs::ReadingsFacts::accepted_in_range))]
     pub fn check(
         terms: &Terms,
         last: &Option<Reading>,
