@@ -1,3 +1,4 @@
 pub mod Checks
+pub mod Orders
 pub mod ReadingsFacts
 pub mod TermsFacts

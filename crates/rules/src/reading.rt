@@ -41,6 +41,7 @@ impl SampleFault {
     }
 }
 
+// Each test has its definition and its refusal. Those of a range are not one function: it would do no more than `contains`.
 impl Reading {
     fn frequency_fits(&self) -> bool
         ensures { result ≡ frequency_fits self.now }

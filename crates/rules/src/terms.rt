@@ -25,14 +25,15 @@ impl Contract {
     }
 }
 
-// What is contracted: the quantity in MW, 0 where the contract is not held, and the price in pence per MW and hour.
+// What is contracted: the quantity in MW, 0 where the contract is not held, and the price in pence per MW and hour. It is no
+// `Option`: a contract that is not held is settled by the same rules, and its price is checked and kept.
 #[derive(Clone, Copy)]
 pub struct Held {
     pub quantity: u64,
     pub price: i64,
 }
 
-// The periods of a block.
+// The periods of a block. `periods` in specs/ states the number again: were it taken from here, no contract would pin it.
 pub const PERIODS: usize = 8;
 
 // Terms that have passed the check, and can be had from nothing else: the ticks of a period, the readings that a period

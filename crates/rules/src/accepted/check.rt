@@ -37,7 +37,7 @@ impl Accepted {
         self.reading.power - self.reading.baseline
     }
 
-    // The flag as a place in a table.
+    // The flag as a place in a table. It stays a number: the rules number flags 0 to 3, and its two bits are the contracts.
     #[tactic(auto, unfolding(crate::specs::ReadingsCheck::in_range))]
     pub fn flag(&self) -> usize
         ensures value { result ≡ unsigned_abs self.now.reading.flag }
