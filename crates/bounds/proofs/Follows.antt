@@ -1,5 +1,6 @@
 -- One reading more, by history: what is kept goes on to be that of the history. Assumes nothing.
 use Rattle.std.proofs.Common.{◌≡◌, ℕ, zero, suc, ◌-◌, Bool, true, false, cond, not, List, [], ◌∷◌, ◌++◌, map, reverse, length, take, drop, ℤ, Some, None, Option, sym, refl, ap, ◌∙◌}
+use Rattle.std.proofs.Math.Seq.{take-nil}
 use Rattle.std.proofs.lemmas.List.{take-append-drop, reverse-append, length-reverse, length-drop, drop_at, take-map}
 use Rattle.curve.specs.Shape.{Shape}
 use Rattle.curve.specs.declared.one_sided.Sides.{Sides}
@@ -23,12 +24,8 @@ newest_first n xs =
     let many : length (reverse (drop n xs)) ≡ length (reverse xs) - n = length-reverse (drop n xs) ∙ length-drop n xs ∙ ap (λ k. k - n) (sym (length-reverse xs)) in
     ap (drop (length (reverse xs) - n)) cut ∙ drop_at (reverse (drop n xs)) (reverse (take n xs)) (length (reverse xs) - n) many
 
-take_nil : {X : Type 0} (n : ℕ) → take {A = X} n [] ≡ []
-take_nil zero = refl
-take_nil (suc n) = refl
-
 take_cond : {X : Type 0} (n : ℕ) (g : Bool) (xs : List X) → cond g [] (take n xs) ≡ take n (cond g [] xs)
-take_cond n true xs = sym (take_nil n)
+take_cond n true xs = sym (take-nil n)
 take_cond n false xs = refl
 
 window_take : (n : ℕ) (h : List Reading) → window n h ≡ take n (window (suc n) h)
