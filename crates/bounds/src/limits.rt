@@ -1,5 +1,5 @@
 // The bounds of a reading.
-ghost use Rattle.std.specs.Prelude.{◌≡◌, pos};
+ghost use Rattle.std.specs.Prelude.{◌≡◌};
 ghost use Rattle.bounds.specs.Bounds.{top, bottom, raw, limited};
 ghost use Rattle.bounds.specs.Kept.{told};
 
@@ -19,14 +19,13 @@ impl Bounds {
     ghost use Rattle.bounds.specs.Kept.{parts_of};
 
     // The least and the most that the held contracts can ask for.
-    fn widest<K: Curve>(curve: &K, held: Sides) -> Bounds
-        ensures { parts_of result ≡ (bottom held (pos (K.Curve.shape curve.now).full), top held (pos (K.Curve.shape curve.now).full)) }
+    fn widest(held: Sides, full: Parts) -> Bounds
+        ensures { parts_of result ≡ (bottom held full.n, top held full.n) }
     {
-        let full = curve.full();
         let (lower, upper) = match held {
-            Sides::Low => (0, full),
-            Sides::High => (-full, 0),
-            Sides::Both => (-full, full),
+            Sides::Low => (0, full.n),
+            Sides::High => (-full.n, 0),
+            Sides::Both => (-full.n, full.n),
         };
         Bounds {
             lower: Parts { n: lower },
@@ -34,16 +33,18 @@ impl Bounds {
         }
     }
 
-    // The raw bounds: in grace the widest, else the curve at the window's highest and at its lowest frequency.
+    // The raw bounds: in grace the widest, else the curve at the window's highest and at its lowest frequency. (A track takes
+    // in a reading on any curve, whichever contracts are held: a struct made of both for this call alone is no plainer.)
     pub fn raw<K: Curve>(curve: &K, held: Sides, in_grace: bool, window: &Window) -> Bounds
         ensures { parts_of result ≡ raw held (K.Curve.shape curve.now) in_grace (told window.now) }
     {
         if in_grace {
-            return Bounds::widest(curve, held);
-        }
-        Bounds {
-            lower: Parts::at(curve, window.first::<Falling>()),
-            upper: Parts::at(curve, window.first::<Rising>()),
+            Bounds::widest(held, Parts::full(curve))
+        } else {
+            Bounds {
+                lower: Parts::at(curve, window.first::<Falling>()),
+                upper: Parts::at(curve, window.first::<Rising>()),
+            }
         }
     }
 

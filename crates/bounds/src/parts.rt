@@ -12,6 +12,13 @@ pub struct Parts {
 }
 
 impl Parts {
+    // The parts that are the whole of the contracted quantity.
+    pub fn full<K: Curve>(curve: &K) -> Parts
+        ensures { result.n ≡ pos (K.Curve.shape curve.now).full }
+    {
+        Parts { n: curve.full() }
+    }
+
     // The parts that a curve calls for at a frequency in mHz.
     pub fn at<K: Curve>(curve: &K, frequency: i64) -> Parts
         ensures { result.n ≡ (K.Curve.shape curve.now).parts frequency }
