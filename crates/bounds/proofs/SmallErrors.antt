@@ -1,10 +1,11 @@
 -- A response within 1 kW of the curve errs by at most 1,000 millionths. Assumes nothing.
-use Rattle.std.proofs.Common.{◌≡◌, ℕ, suc, ◌*◌, ◌≤◌, Bool, true, false, cond, ◌&&◌, ltb, List, ℤ, pos, negsuc, ◌-ℤ◌, ◌*ℤ◌, nat_abs, ◌≤ℤ◌, Some, sym, ap, ◌∙◌, subst, mul-le-mul_right, mul_assoc, mul_comm, arith}
+use Rattle.std.proofs.Common.{◌≡◌, ℕ, suc, ◌*◌, ◌≤◌, Bool, true, cond, ◌&&◌, ltb, List, ℤ, pos, negsuc, ◌-ℤ◌, ◌*ℤ◌, nat_abs, ◌≤ℤ◌, Some, sym, ap, ◌∙◌, subst, mul-le-mul_right, mul_assoc, mul_comm, arith}
 use native.Mathlib.Nat.{div-le_of_le-mul}
 use lib.Signed.{lt_z}
 use Rattle.std.proofs.lemmas.Int.{ints, clamps}
 use Rattle.std.proofs.lemmas.Option.{cond_some}
-use Rattle.std.proofs.lemmas.Bool.{and_parts, le-ltb, ltb-true}
+use Rattle.std.proofs.lemmas.Bool.Decides.{nat_tests}
+use Rattle.std.proofs.lemmas.Bool.{and_parts, ltb-true}
 use Rattle.curve.specs.Shape.{Shape, IsCurve}
 use Rattle.curve.specs.Sides.{sided}
 use Rattle.curve.specs.declared.one_sided.Sides.{Sides}
@@ -20,15 +21,12 @@ use Rattle.bounds.specs.Errors.{kilowatts, in_kilowatts, response, share, outsid
 use Rattle.bounds.specs.Laws.{Follows}
 use Rattle.bounds.proofs.Encloses.{bounds_law}
 
-never : (n : ℕ) → ltb n 0 ≡ false
-never n = le-ltb n 0 (omega arith)
-
 -- more parts are no fewer kW
 grows : (high low : ℕ) (p q : ℤ) → p ≤ℤ q → (p *ℤ cond (lt_z p (pos 0)) (pos high) (pos low)) ≤ℤ (q *ℤ cond (lt_z q (pos 0)) (pos high) (pos low))
 grows high low (pos p) (pos q) h =
     let m : p * low ≤ q * low = mul-le-mul_right low (omega (arith, ints)) in
-    simp (never p, never q) (omega (arith, ints))
-grows high low (negsuc p) (pos q) h = simp (never q) (omega (arith, ints))
+    grind (arith, ints, nat_tests)
+grows high low (negsuc p) (pos q) h = grind (arith, ints, nat_tests)
 grows high low (negsuc p) (negsuc q) h =
     let m : suc q * high ≤ suc p * high = mul-le-mul_right high (omega (arith, ints)) in omega (arith, ints)
 grows high low (pos p) (negsuc q) h = absurd (omega (arith, ints))
