@@ -1,5 +1,6 @@
 pub mod FactorFacts
 pub mod FourErring
+pub mod FromFn
 pub mod LowestFacts
 pub mod MoneyFacts
 pub mod PromiseFacts
