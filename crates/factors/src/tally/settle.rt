@@ -6,7 +6,8 @@ ghost use Rattle.factors.specs.Money.{settled, told};
 ghost use Rattle.factors.specs.Promises.{Promised};
 ghost use Rattle.factors.specs.Tally.{Tallied};
 
-use crate::money::{come_to, earning};
+use crate::factors::WHOLE;
+use crate::money::{earned, earning, lowest, scaled};
 use crate::settlement::{PeriodFigures, Settlement};
 use crate::tally::Tally;
 use rules::{Contract, PERIODS, Terms};
@@ -26,6 +27,14 @@ impl Tally {
         ensures value { (js : List Judged) → Tallied self.now js → told result ≡ settled terms.now contract js }
         ensures promised { (js : List Judged) → Tallied self.now js → Promised terms.now contract js (told result) }
     {
-        come_to(earning(terms, contract), &self.tabled(terms))
+        let periods = self.tabled(terms);
+        let sum = earned(earning(terms, contract), &periods);
+        let factor = lowest(&periods);
+        Settlement {
+            periods,
+            sum,
+            factor,
+            payment: scaled(sum, factor, WHOLE),
+        }
     }
 }
