@@ -4,7 +4,6 @@ pub mod FromFn
 pub mod LowestFacts
 pub mod MoneyFacts
 pub mod PromiseFacts
-pub mod RollingFacts
 pub mod TallyFacts
 pub mod WorseErrors
 pub mod WorstFacts
