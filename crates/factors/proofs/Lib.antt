@@ -1,6 +1,7 @@
 pub mod FactorFacts
 pub mod FourErring
 pub mod FromFn
+pub mod LeastFacts
 pub mod LowestFacts
 pub mod MoneyFacts
 pub mod PromiseFacts

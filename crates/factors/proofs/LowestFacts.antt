@@ -1,10 +1,7 @@
 -- The lowest factor is that of some period, and no period has a lower one. Assumes nothing.
-use Rattle.std.proofs.Common.{◌≡◌, ℕ, ◌+◌, ◌<◌, ◌≤◌, List, [], ◌∷◌, map, length, get_or, sym, ap, ◌∙◌, arith}
+use Rattle.std.proofs.Common.{◌≡◌, ℕ, ◌<◌, ◌≤◌, List, [], ◌∷◌, map, length, get_or, ap, ◌∙◌, arith}
 use Rattle.std.specs.List.{range_with_len}
-use Rattle.std.proofs.lemmas.List.MinMax.{IsStrictWeakOrder-by_number, IsFirstBest-from_best_of}
 use Rattle.std.proofs.lemmas.List.FromFn.{length-map-range_with_len, get_or-map-range_with_len, fill_by_all}
-use Rattle.std.proofs.lemmas.List.{get_or_default}
-use Rattle.std.proofs.lemmas.Bool.{ltb-false}
 use Rattle.rules.specs.Terms.{periods}
 use Rattle.rules.specs.declared.terms.Terms.{Terms}
 use Rattle.rules.proofs.TermsFacts.{facts}
@@ -16,23 +13,11 @@ use Rattle.factors.specs.declared.period_record.PeriodRecord.{PeriodRecord}
 use Rattle.factors.specs.declared.settlement.PeriodFigures.{PeriodFigures}
 use Rattle.factors.specs.declared.tally.Tally.{Tally}
 use Rattle.factors.proofs.FactorFacts.{factor_most}
-
-pub record LowestOf (n : ℕ) (f : ℕ → ℕ) (low : ℕ) : Type 0 where
-  pub place : ℕ
-  pub within : place < n
-  pub reached : low ≡ f place
-  pub below : (k : ℕ) → k < n → low ≤ f k
+use Rattle.factors.proofs.LeastFacts.{LowestOf, least_lowest}
 
 lowest_at : (fs : List PeriodFigures) (d : PeriodFigures) → 0 < length fs → LowestOf (length fs) (λ k. (get_or fs k d).factor) (lowest fs)
 lowest_at [] d h = absurd (omega arith)
-lowest_at (f ∷ fs) d h =
-    let best = IsFirstBest-from_best_of (IsStrictWeakOrder-by_number (λ x. x.factor)) f fs in
-    record {
-      place = best.0;
-      within = best.1.0;
-      reached = ap (λ x. x.factor) (sym best.2) ∙ ap (λ x. x.factor) (get_or_default (f ∷ fs) best.0 f d best.1.0);
-      below = λ k l. omega (arith, ltb-false (get_or (f ∷ fs) k f).factor (get_or (f ∷ fs) best.0 f).factor (best.1.1 k f l), ap (λ x. x.factor) best.2, ap (λ x. x.factor) (get_or_default (f ∷ fs) k f d l));
-    }
+lowest_at (f ∷ fs) d h = least_lowest (λ (f : PeriodFigures). f.factor) f fs d
 
 lowest_counted : (g : ℕ → PeriodFigures) (n : ℕ) → 0 < n → LowestOf n (λ k. (g k).factor) (lowest (map g (range_with_len 0 n)))
 lowest_counted g n h =

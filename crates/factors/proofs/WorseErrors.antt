@@ -1,9 +1,8 @@
 -- Errors that are not smaller give no smaller rolling errors, and the rest stays. Assumes nothing.
-use Rattle.std.proofs.Common.{◌≡◌, ℕ, zero, suc, ◌≤◌, max, Bool, true, false, cond, eqb, ltb, List, [], ◌∷◌, length, Some, None, Option, sym, refl, ap, ◌∙◌, subst, inl, inr, arith}
+use Rattle.std.proofs.Common.{◌≡◌, ℕ, zero, suc, ◌<◌, ◌≤◌, max, Bool, true, false, cond, eqb, ltb, List, [], ◌∷◌, length, Some, None, Option, sym, refl, subst, arith}
 use Rattle.std.specs.List.{best_of, AllZip, AllByRecursion}
-use Rattle.std.proofs.lemmas.List.Elements.{length_all_zip}
+use Rattle.std.proofs.lemmas.List.Elements.{length_all_zip, AllZip-get_or}
 use Rattle.std.proofs.lemmas.Bool.{cond_both, ltb-true, ltb-false}
-use Rattle.std.proofs.lemmas.Bool.Decides.{nat_tests}
 use Rattle.rules.specs.Least.{least}
 use Rattle.factors.specs.Periods.{readings, throughout}
 use Rattle.factors.specs.Promises.{NoSmallerError, ErrsNoLess, NoSmaller, AtMost}
@@ -11,6 +10,7 @@ use Rattle.factors.specs.Rolling.{joins, onto, run, least_of_four, rolling}
 use Rattle.factors.specs.Worst.{worse, worst}
 use Rattle.factors.specs.declared.judgement.Judgement.{Judgement}
 use Rattle.factors.specs.declared.worst.Worst.{Worst}
+use Rattle.factors.proofs.LeastFacts.{least_lowest}
 
 abbrev NoLess : List ℕ → List ℕ → Type 0
 NoLess es fs = AllZip (λ e f. e ≤ f) es fs
@@ -43,13 +43,11 @@ run_no_less (suc n) (j ∷ js) (k ∷ ks) h =
     (subst (λ b. NoLess (cond (joins j js) (run n js) []) (cond b (run n ks) [])) (sym same) (both_ways NoLess (joins j js) _ _ _ _ (run_no_less n js ks h.1) tt))
 
 best_no_less : (a b : ℕ) (es fs : List ℕ) → a ≤ b → NoLess es fs → best_of ltb a es ≤ best_of ltb b fs
-best_no_less a b [] [] h hs = h
-best_no_less a b [] (f ∷ fs) h hs = absurd hs
-best_no_less a b (e ∷ es) [] h hs = absurd hs
-best_no_less a b (e ∷ es) (f ∷ fs) h hs =
-    let k : e ≤ f = hs.0 in
-    let l : cond (ltb e a) e a ≤ cond (ltb f b) f b = grind (arith, nat_tests) in
-    best_no_less (cond (ltb e a) e a) (cond (ltb f b) f b) es fs l hs.1
+best_no_less a b es fs h hs =
+    let low = least_lowest (λ e. e) b fs b in
+    let pairs : NoLess (a ∷ es) (b ∷ fs) = (h, hs) in
+    let within : low.place < length (a ∷ es) = omega (arith, low.within, length_all_zip (λ e f. e ≤ f) (a ∷ es) (b ∷ fs) pairs) in
+    omega (arith, low.reached, (least_lowest (λ e. e) a es a).below low.place within, AllZip-get_or (λ e f. e ≤ f) (a ∷ es) (b ∷ fs) low.place a b pairs within)
 
 four_no_less : (es fs : List ℕ) → NoLess es fs → NoSmallerError (least_of_four es) (least_of_four fs)
 four_no_less [] [] h = tt
@@ -104,17 +102,10 @@ run_most a zero js h = tt
 run_most a (suc n) [] h = tt
 run_most a (suc n) (j ∷ js) h = onto_most a j.error _ h.0 (cond_both (joins j js) (run n js) [] (AllByRecursion (λ e. e ≤ a)) (λ _. run_most a n js h.1) (λ _. tt))
 
-best_first : (a : ℕ) (es : List ℕ) → best_of ltb a es ≤ a
-best_first a [] = omega arith
-best_first a (e ∷ es) =
-    let rest = best_first (cond (ltb e a) e a) es in
-    let least : cond (ltb e a) e a ≤ a = grind (arith, nat_tests) in
-    omega arith
-
 four_most : (a : ℕ) (es : List ℕ) → AllByRecursion (λ e. e ≤ a) es → AtMost a (least_of_four es)
 four_most a [] h = tt
 four_most a (e ∷ es) h =
-    let least : best_of ltb e es ≤ a = omega (arith, best_first e es, h.0) in
+    let least : best_of ltb e es ≤ a = omega (arith, (least_lowest (λ e. e) e es e).below 0 (omega arith), h.0) in
     cond_both (eqb (length (e ∷ es)) 4) (Some (best_of ltb e es)) None (AtMost a) (λ _. least) (λ _. tt)
 
 worse_most : (a : ℕ) (w : Worst) (o : Option ℕ) (k : ℕ) → w.error ≤ a → AtMost a o → (worse w o k).error ≤ a
