@@ -38,6 +38,7 @@ impl Tally {
     }
 
     // Takes in a reading, which alters only the record of its own period.
+    #[tactic(auto, using(crate::proofs::TallyFacts::taken_in))]
     pub fn take_in(&mut self, j: &Judgement)
         ensures own { (o : Optional ℕ) × (self.new.records ≡ with_reading self.old.records j.now o) }
         ensures tallied { (js : List Judged) → length js < most_readings → Tallied self.old js → Tallied self.new (j.now ∷ js) }

@@ -1,8 +1,9 @@
-use Rattle.factors.proofs.LowestFacts.{table_more, table_all}
+use Rattle.std.proofs.Common.{of_calls, get_or}
+use Rattle.factors.specs.Factors.{figures_of, tabled}
+use Rattle.factors.specs.Periods.{period_count, beyond}
+use Rattle.factors.proofs.FromFn.{from_fn_same}
 use Rattle.factors.proofs.tally.Tally.tabled.Goals as goal
 
-pub loop-p-preserved : goal.loop-p-preserved
-loop-p-preserved c = table_more c.args.terms.now c.args.self.now.records c.loop-p.table c.loop-p.p c.figures_at.result c.loop-p.invariant.0 c.loop-p-test.true c.figures_at.ensures c.loop-p.invariant.1
-
 pub returns : goal.returns
-returns c = table_all c.args.terms.now c.args.self.now.records c.loop-p.table c.loop-p.p c.loop-p.invariant.0 c.loop-p-test.false c.loop-p.invariant.1
+unfolding tabled
+returns c = from_fn_same _ (λ p. figures_of c.args.terms.now p (get_or c.args.self.now.records p beyond)) _ period_count (figures_of c.args.terms.now 0 beyond) (λ i y q h called. (search of_calls, search of_calls)) _ c.from_fn.ensures.items
