@@ -1,9 +1,9 @@
 // Whether bytes are a form, and the first of them that does not fit.
 ghost use Rattle.std.specs.Prelude.{◌≡◌};
+ghost use Rattle.form.specs.Alphabet.{in_alphabet};
 ghost use Rattle.form.specs.Misfits.{Checked};
 ghost use Rattle.form.specs.Scanning.{kind_after, misfit_at, Ended};
 
-use crate::alphabet::in_alphabet;
 use crate::misfit::{Kind, Misfit};
 use crate::state::{Limits, State};
 
@@ -22,6 +22,13 @@ const ONE_DIGIT_MORE: Limits = Limits {
     more_digits: 10,
     depth: 4,
 };
+
+// Small letters, digits, brackets, space and minus.
+fn in_alphabet(b: u8) -> bool
+    ensures { result ≡ in_alphabet b }
+{
+    matches!(b, b'a'..=b'z' | b'0'..=b'9' | b'(' | b')' | b' ' | b'-')
+}
 
 // What is wrong with a byte that does not fit after this state.
 fn kind_of(state: State, b: u8) -> Kind

@@ -2,8 +2,6 @@
 ghost use Rattle.std.specs.Prelude.{◌≡◌};
 ghost use Rattle.form.specs.Scanning.{closed, after_item, item_begins, step, stuck, with_room};
 
-use crate::alphabet::{digit, first_digit, letter};
-
 // `outer` counts the forms around the one that is open; `left`, how many letters or digits may still come.
 #[derive(Clone, Copy)]
 pub enum State {
@@ -74,15 +72,15 @@ impl State {
     {
         match self {
             State::Start if b == b'(' => State::Opened(0),
-            State::Opened(outer) if letter(b) => State::Word(7, outer),
-            State::Word(left, outer) if letter(b) => {
+            State::Opened(outer) if b.is_ascii_lowercase() => State::Word(7, outer),
+            State::Word(left, outer) if b.is_ascii_lowercase() => {
                 if left == 0 {
                     State::Stuck
                 } else {
                     State::Word(left - 1, outer)
                 }
             }
-            State::Number(left, outer) if digit(b) => {
+            State::Number(left, outer) if b.is_ascii_digit() => {
                 if left == 0 {
                     State::Stuck
                 } else {
@@ -92,7 +90,7 @@ impl State {
             State::Word(_, outer) | State::Number(_, outer) | State::After(outer) =>
                 State::after_item(outer, b),
             State::Gap(outer) => State::item_begins(limits, outer, b),
-            State::Minus(outer) if first_digit(b) => State::Number(limits.more_digits, outer),
+            State::Minus(outer) if matches!(b, b'1'..=b'9') => State::Number(limits.more_digits, outer),
             _ => State::Stuck,
         }
     }
