@@ -14,13 +14,13 @@ const LIMITS: Limits = Limits {
 };
 
 const ONE_DEPTH_MORE: Limits = Limits {
-    more_digits: 9,
-    depth: 5,
+    depth: LIMITS.depth + 1,
+    ..LIMITS
 };
 
 const ONE_DIGIT_MORE: Limits = Limits {
-    more_digits: 10,
-    depth: 4,
+    more_digits: LIMITS.more_digits + 1,
+    ..LIMITS
 };
 
 // Small letters, digits, brackets, space and minus.
@@ -36,9 +36,9 @@ fn kind_of(state: State, b: u8) -> Kind
 {
     if !in_alphabet(b) {
         Kind::Alien
-    } else if !state.step(ONE_DEPTH_MORE, b).is_stuck() {
+    } else if state.step(ONE_DEPTH_MORE, b).is_some() {
         Kind::TooDeep
-    } else if !state.with_room().step(ONE_DIGIT_MORE, b).is_stuck() {
+    } else if state.with_room().step(ONE_DIGIT_MORE, b).is_some() {
         Kind::TooManyDigits
     } else {
         Kind::Misplaced
@@ -74,10 +74,9 @@ pub fn check_form(bytes: &[u8]) -> Result<(), Misfit>
 {
     let mut state = State::Start;
     for (i, b) in bytes.iter().enumerate() {
-        let next = state.step(LIMITS, *b);
-        if next.is_stuck() {
+        let Some(next) = state.step(LIMITS, *b) else {
             return Err(misfit_at(state, i, *b));
-        }
+        };
         state = next;
     }
     at_end(state, bytes.len())
