@@ -64,24 +64,17 @@ impl State {
     pub fn step(self, limits: Limits, b: u8) -> Option<State>
         ensures { result ≡ step limits.more_digits limits.depth self b }
     {
-        match self {
-            State::Start if b == b'(' => Some(State::Opened(0)),
-            State::Opened(outer) if b.is_ascii_lowercase() => Some(State::Word(7, outer)),
-            State::Word(left, outer) if b.is_ascii_lowercase() => Some(State::Word(
-                left.checked_sub(1)?,
-                outer,
-            )),
-            State::Number(left, outer) if b.is_ascii_digit() => Some(State::Number(
-                left.checked_sub(1)?,
-                outer,
-            )),
-            State::Word(_, outer) | State::Number(_, outer) | State::After(outer) =>
+        match (self, b) {
+            (State::Start, b'(') => Some(State::Opened(0)),
+            (State::Opened(outer), b'a'..=b'z') => Some(State::Word(7, outer)),
+            // A full word or number.
+            (State::Word(0, _), b'a'..=b'z') | (State::Number(0, _), b'0'..=b'9') => None,
+            (State::Word(left, outer), b'a'..=b'z') => Some(State::Word(left - 1, outer)),
+            (State::Number(left, outer), b'0'..=b'9') => Some(State::Number(left - 1, outer)),
+            (State::Word(_, outer) | State::Number(_, outer) | State::After(outer), _) =>
                 State::after_item(outer, b),
-            State::Gap(outer) => State::item_begins(limits, outer, b),
-            State::Minus(outer) if matches!(b, b'1'..=b'9') => Some(State::Number(
-                limits.more_digits,
-                outer,
-            )),
+            (State::Gap(outer), _) => State::item_begins(limits, outer, b),
+            (State::Minus(outer), b'1'..=b'9') => Some(State::Number(limits.more_digits, outer)),
             _ => None,
         }
     }
