@@ -1,33 +1,26 @@
 -- What the steps over bytes say of them.
-use Rattle.std.proofs.Common.{◌≡◌, ℕ, suc, ◌+◌, ◌<◌, ◌≤◌, List, length, get_or, take, Some, None, Ok, Err, Result, Decides, refl, ap, sym, subst, inl, inr}
+use Rattle.std.proofs.Common.{◌≡◌, ℕ, ◌<◌, ◌≤◌, List, length, get_or, take, Some, None, Ok, Err, Result, Decides, refl, ap, sym, subst, inl, inr}
 use Rattle.std.proofs.lemmas.List.{take_all}
 use Rattle.std.proofs.lemmas.Bool.{cond_both}
 use Rattle.std.proofs.lemmas.Bool.Decides.{not_from_Decides}
 use Rattle.std.specs.Option.{is_some}
 use Rattle.form.specs.Alphabet.{in_alphabet}
-use Rattle.form.specs.Misfits.{Completable, FirstMisfit, FitsDeeper, FitsLonger, Wrong, Checked}
+use Rattle.form.specs.Misfits.{FirstMisfit, FitsDeeper, FitsLonger, Wrong, Checked}
 use Rattle.form.specs.Scanning.{step, run, with_room, kind_after, misfit_at, Ended}
 use Rattle.form.specs.declared.misfit.Misfit.{Misfit}
 use Rattle.form.specs.declared.misfit.Kind.TheVariants.{Alien, Misplaced, TooDeep, TooManyDigits}
 use Rattle.form.specs.declared.state.State.{State}
 use Rattle.form.specs.declared.state.State.TheVariants.{Start}
-use Rattle.form.proofs.RunFacts.{run_more}
 use Rattle.form.proofs.FormsPass.{form_passes}
 use Rattle.form.proofs.PassedForms.{passed_form}
-use Rattle.form.proofs.Completions.{completable, decided, shorter_completable}
+use Rattle.form.proofs.Completions.{completable, fits, shorter_completable}
 use Rattle.form.proofs.LooserLimits.{longer, deeper_run, longer_run, room_enough}
 
 -- The first bytes lead to this state.
 abbrev pub Reached : List ℕ → ℕ → State → Type 0
 Reached bytes i s = run 9 4 Start (take i bytes) ≡ Some s
 
--- Whether a byte after them fits.
-module _ (l m : ℕ) (bytes : List ℕ) (i : ℕ) (s : State) (inside : i < length bytes) (so_far : run l m Start (take i bytes) ≡ Some s) where
-  fits : Decides (is_some (step l m s (get_or bytes i 0))) (Completable (suc l) m (take (i + 1) bytes))
-  fits =
-      subst (λ o. Decides (is_some o) (Completable (suc l) m (take (i + 1) bytes))) (run_more l m bytes i s inside so_far)
-      (decided l m (take (i + 1) bytes))
-
+-- The byte after them does not fit.
 module _ (bytes : List ℕ) (i : ℕ) (s : State) (inside : i < length bytes) (so_far : Reached bytes i s)
     (sticks : step 9 4 s (get_or bytes i 0) ≡ None) where
   first_misfit : FirstMisfit bytes i
