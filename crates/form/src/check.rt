@@ -73,9 +73,9 @@ pub fn check_form(bytes: &[u8]) -> Result<(), Misfit>
     ensures { Checked bytes.now result }
 {
     let mut state = State::Start;
-    for (i, b) in bytes.iter().enumerate() {
-        let Some(next) = state.step(LIMITS, *b) else {
-            return Err(misfit_at(state, i, *b));
+    for (i, &b) in bytes.iter().enumerate() {
+        let Some(next) = state.step(LIMITS, b) else {
+            return Err(misfit_at(state, i, b));
         };
         state = next;
     }

@@ -55,7 +55,10 @@ impl State {
             b'0' => Some(State::After(outer)),
             b'1'..=b'9' => Some(State::Number(limits.more_digits, outer)),
             b'-' => Some(State::Minus(outer)),
-            b'(' if outer.saturating_add(1) < limits.depth => Some(State::Opened(outer + 1)),
+            b'(' => outer
+                .checked_add(1)
+                .filter(|around| *around < limits.depth)
+                .map(State::Opened),
             _ => None,
         }
     }
