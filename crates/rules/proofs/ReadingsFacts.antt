@@ -1,5 +1,5 @@
 -- What is known of accepted readings. Assumes nothing.
-use Rattle.std.proofs.Common.{◌≡◌, ℕ, ◌*◌, ◌≤◌, true, ℤ, pos, negsuc, ◌≤ℤ◌, None, Option, arith}
+use Rattle.std.proofs.Common.{◌≡◌, ◌≤◌, true, pos, negsuc, ◌≤ℤ◌, None, Option, arith}
 use Rattle.std.proofs.lemmas.Bool.{and_from}
 use Rattle.std.proofs.lemmas.Grind.{common_steps}
 use Rattle.basics.specs.Check.{within}

@@ -1,5 +1,5 @@
 -- What is known of terms that the check refuses nothing of. Assumes nothing.
-use Rattle.std.proofs.Common.{◌≡◌, ℕ, ◌+◌, ◌<◌, ◌≤◌, true, not, ℤ, pos, nat_abs, ◌≤ℤ◌, is_some, None, ap, arith, w64, to_z, of_z}
+use Rattle.std.proofs.Common.{◌≡◌, ℕ, ◌+◌, ◌<◌, ◌≤◌, true, not, ℤ, pos, nat_abs, ◌≤ℤ◌, is_some, None, ap, ◌∙◌, arith, w64, to_z, of_z}
 use Rattle.std.proofs.lemmas.Grind.{common_steps}
 use Rattle.std.proofs.lemmas.Int.{ints}
 use Rattle.rules.specs.TermsCheck.{refused_terms, handed, sound, some_held, quantities_fit, prices_fit, a_fits, b_fits, length_fits, needed_fits}
@@ -57,17 +57,18 @@ small i p = record {
   high = grind (arith, ints, p.quantities);
 }
 
--- what the check keeps is what was handed in
-pub kept : (i : TermsInput) (ticks needed a b : ℕ) (low high : Held) → Passed i → ticks ≡ nat_abs (back i.ticks) → needed ≡ nat_abs (back i.needed) → a ≡ nat_abs (back i.a) → b ≡ nat_abs (back i.b) → low.quantity ≡ nat_abs i.low.quantity → low.price ≡ i.low.price → high.quantity ≡ nat_abs i.high.quantity → high.price ≡ i.high.price → handed ticks needed a b low high ≡ i
-kept i ticks needed a b low high p et en ea eb el elp eh ehp =
-    let s = small i p in
-    let low_is : pos low.quantity ≡ i.low.quantity = omega (arith, ints, s.low) in
-    let high_is : pos high.quantity ≡ i.high.quantity = omega (arith, ints, s.high) in
-    rw (told _ _ s.ticks et, told _ _ s.needed en, told _ _ s.a ea, told _ _ s.b eb, low_is, elp, high_is, ehp)
+-- what the check keeps is what was handed in, and sound
+module _ (i : TermsInput) (ticks needed a b : ℕ) (low high : Held) (none : refused_terms i ≡ None) (t : ticks ≡ nat_abs (back i.ticks)) (n : needed ≡ nat_abs (back i.needed)) (a' : a ≡ nat_abs (back i.a)) (b' : b ≡ nat_abs (back i.b)) (lq : low.quantity ≡ nat_abs i.low.quantity) (lp : low.price ≡ i.low.price) (hq : high.quantity ≡ nat_abs i.high.quantity) (hp : high.price ≡ i.high.price) where
+  pub kept : handed ticks needed a b low high ≡ i
+  kept =
+      let s = small i (passed i none) in
+      let l : pos low.quantity ≡ i.low.quantity = omega (arith, ints, s.low) in
+      let h : pos high.quantity ≡ i.high.quantity = omega (arith, ints, s.high) in
+      rw (told _ _ s.ticks t, told _ _ s.needed n, told _ _ s.a a', told _ _ s.b b', l, lp, h, hp)
 
-pub sound_from : (ticks needed a b : ℕ) (low high : Held) → refused_terms (handed ticks needed a b low high) ≡ None → sound ticks needed a b low high ≡ true
-unfolding sound
-sound_from ticks needed a b low high e = ap (λ o. not (is_some o)) e
+  pub kept_sound : sound ticks needed a b low high ≡ true
+  unfolding sound
+  kept_sound = ap (λ o. not (is_some o)) (ap refused_terms kept ∙ none)
 
 -- what is known of checked terms
 pub record Facts (t : Terms) : Type 0 where

@@ -1,5 +1,5 @@
 -- The check of terms that are handed in. Assumes nothing.
-use Rattle.std.specs.Prelude.{ℕ, Bool, not, ◌&&◌, ℤ, pos, is_some, None, Option, int_le, int_lt}
+use Rattle.std.specs.Prelude.{ℕ, Bool, not, ◌&&◌, pos, is_some, None, Option, int_le, int_lt}
 use Rattle.basics.specs.Check.{unless, within}
 use Rattle.rules.specs.Check.{same}
 use Rattle.rules.specs.declared.terms.Held.{Held}
