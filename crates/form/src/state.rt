@@ -83,7 +83,7 @@ impl State {
         }
     }
 
-    // The same, where a number that is full may have one digit more.
+    // The same state, where a number that is full may have one digit more.
     pub fn with_room(self) -> State
         ensures { result ≡ with_room self }
     {
