@@ -48,7 +48,7 @@ abbrev pub run : ℕ → ℕ → State → List ℕ → Option State
 run more deepest state [] = Some state
 run more deepest state (b ∷ bs) = option_and_then (λ next. run more deepest next bs) (step more deepest state b)
 
--- The same, where a number that is full may have one digit more.
+-- The same state, where a number that is full may have one digit more.
 abbrev pub with_room : State → State
 with_room (Number zero outer) = Number 1 outer
 with_room state = state

@@ -70,7 +70,8 @@ impl State {
         match (self, b) {
             (State::Start, b'(') => Some(State::Opened(0)),
             (State::Opened(outer), b'a'..=b'z') => Some(State::Word(7, outer)),
-            // A full word or number.
+            // Letters and digits have an arm each: one for both would have to ask again which of them it has.
+            // A full word or number takes no more.
             (State::Word(0, _), b'a'..=b'z') | (State::Number(0, _), b'0'..=b'9') => None,
             (State::Word(left, outer), b'a'..=b'z') => Some(State::Word(left - 1, outer)),
             (State::Number(left, outer), b'0'..=b'9') => Some(State::Number(left - 1, outer)),
@@ -82,7 +83,7 @@ impl State {
         }
     }
 
-    // The same, where a number that is full may have one digit more.
+    // The same state, where a number that is full may have one digit more.
     pub fn with_room(self) -> State
         ensures { result ≡ with_room self }
     {
