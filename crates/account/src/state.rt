@@ -84,9 +84,6 @@ impl State {
     pub fn settle(&self, terms: &Terms, contract: Contract) -> Settlement
         ensures { (s : Shape) (h : List Reading) → Kept terms.now s h self.now → told result ≡ settled terms.now contract (judgements terms.now s contract h) }
     {
-        match contract {
-            Contract::Low => self.low.settle(terms, contract),
-            Contract::High => self.high.settle(terms, contract),
-        }
+        contract.pick(&self.low, &self.high).settle(terms, contract)
     }
 }

@@ -28,10 +28,7 @@ impl<C> ClosedBlock<C> {
     pub fn settlement(&self, contract: Contract) -> Settlement
         ensures { told result ≡ told_of contract self.now }
     {
-        match contract {
-            Contract::Low => self.low,
-            Contract::High => self.high,
-        }
+        contract.pick(self.low, self.high)
     }
 
     // The sum over payable periods, in pence.
