@@ -24,6 +24,7 @@ use report::Report;
 use std::io;
 
 fn main(rt: HostRuntime) -> io::Result<()> {
+    // One by one: a table of these functions would have a line for each too.
     let mut report = Report::new(rt);
     worked_block::show(&mut report)?;
     single_values::show(&mut report)?;

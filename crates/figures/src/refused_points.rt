@@ -2,7 +2,7 @@
 use crate::cases::{Case, refusals};
 use crate::shown::or;
 use crate::told::{Told, tells};
-use curve::{Curve, Point, Points};
+use curve::{Curve, Point, Points, PointsFault};
 use report::Report;
 use std::alloc::{AllocError, Global};
 use std::{fmt, io};
@@ -23,7 +23,7 @@ impl Load {
             .map(|&(deviation, parts)| Point { deviation, parts })
             .collect(heap)?;
         let refused = curve.load(&points, ramp, lag).err();
-        Ok(refused.map(|fault| fault.number()))
+        Ok(refused.map(PointsFault::number))
     }
 }
 

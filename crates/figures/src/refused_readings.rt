@@ -4,7 +4,7 @@ use crate::inputs::{FIFTY, NOT_HELD, Row, usual};
 use account::Account;
 use curve::Containment;
 use report::Report;
-use rules::Reading;
+use rules::{Reading, SampleFault};
 use std::io;
 
 const THE_FIRST: [Case<Row>; 6] = [
@@ -57,7 +57,7 @@ fn after(rows: &[Row], row: Row) -> io::Result<Option<u32>> {
         let _ = account.sample(&Reading::from(*row));
     }
     let refused = account.sample(&Reading::from(row)).err();
-    Ok(refused.map(|fault| fault.number()))
+    Ok(refused.map(SampleFault::number))
 }
 
 fn after_tick_5(row: Row) -> io::Result<Option<u32>> {
@@ -68,7 +68,7 @@ pub fn show(report: &mut Report<impl Print>) -> io::Result<()> {
     report.title("The first reading, with L = 20: refusal 18, 0 for accepted")?;
     refusals(report, &THE_FIRST, |row| after(&[], row))?;
     report.title("Readings after tick 5, with L = 20: refusals 13 to 18, 0 for accepted")?;
-    refusals(report, &AFTER_TICK_5, |row| after_tick_5(row))?;
+    refusals(report, &AFTER_TICK_5, after_tick_5)?;
     report.title("Readings after tick 5: the first of several refusals that fit")?;
-    refusals(report, &SEVERAL_FIT, |row| after_tick_5(row))
+    refusals(report, &SEVERAL_FIT, after_tick_5)
 }

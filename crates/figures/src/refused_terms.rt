@@ -2,7 +2,7 @@
 use crate::cases::{Case, refusals};
 use crate::inputs::{FIFTY, Input, NOT_HELD};
 use report::Report;
-use rules::{TermsInput, check_terms};
+use rules::{TermsFault, TermsInput, check_terms};
 use std::io;
 
 const QUANTITIES: [Case<Input>; 10] = [
@@ -72,14 +72,14 @@ const SEVERAL_FIT: [Case<Input>; 7] = [
 // The number of the refusal of terms.
 fn number(input: Input) -> io::Result<Option<u32>> {
     let refused = check_terms(&TermsInput::from(input)).err();
-    Ok(refused.map(|fault| fault.number()))
+    Ok(refused.map(TermsFault::number))
 }
 
 pub fn show(report: &mut Report<impl Print>) -> io::Result<()> {
     report.title("Terms: refusals 1 to 7, 0 for accepted")?;
     for table in [&QUANTITIES[..], &PRICES, &TOLERANCES, &LENGTHS] {
-        refusals(report, table, |input| number(input))?;
+        refusals(report, table, number)?;
     }
     report.title("Terms: the first of several refusals that fit")?;
-    refusals(report, &SEVERAL_FIT, |input| number(input))
+    refusals(report, &SEVERAL_FIT, number)
 }

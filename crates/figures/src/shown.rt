@@ -4,6 +4,7 @@ use either::{Either, Left, Right};
 use factors::PeriodFigures;
 use rules::{Contract, SampleFault};
 use std::fmt;
+use thiserror::Error;
 
 // What there is, or what is written where there is nothing.
 pub fn or<T, D: Drop>(value: Option<T>, none: D) -> Either<T, D> {
@@ -22,7 +23,8 @@ pub fn name(contract: Contract) -> &'static str {
 }
 
 // A refusal, by its number.
-#[derive(Clone, Copy, PartialEq, Eq)]
+#[derive(Clone, Copy, PartialEq, Eq, Debug, Error)]
+#[error("refused {0}")]
 pub struct Refused(pub u32);
 
 impl From<SampleFault> for Refused {
@@ -34,12 +36,6 @@ impl From<SampleFault> for Refused {
 impl From<PeriodFault> for Refused {
     fn from(fault: PeriodFault) -> Refused {
         Refused(fault.number())
-    }
-}
-
-impl fmt::Display for Refused {
-    fn fmt<W: fmt::Write>(&self, f: &mut fmt::Formatter<W>) -> fmt::Result {
-        write!(f, "refused {}", self.0)
     }
 }
 

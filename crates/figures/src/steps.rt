@@ -11,7 +11,7 @@ use std::io;
 #[derive(Clone, Copy)]
 pub struct Step(pub Stretch, pub Result<Accepted, Refused>);
 
-fn hand_in<C: Curve>(account: &mut Account<C>, stretch: &Stretch) -> Result<Accepted, Refused> {
+fn answered<C: Curve>(account: &mut Account<C>, stretch: &Stretch) -> Result<Accepted, Refused> {
     Ok(Accepted::from(stretch.hand_in(account)?))
 }
 
@@ -23,7 +23,7 @@ pub fn walk<C: Curve>(
     for Step(stretch, should_be) in steps {
         report.compare(
             *stretch,
-            Either::from(hand_in(account, stretch)),
+            Either::from(answered(account, stretch)),
             Either::from(*should_be),
         )?;
     }
