@@ -10,7 +10,7 @@ use std::{fmt, io};
 // A deviation in mHz and its parts.
 type At = (i64, i64);
 
-// Points, a ramp and a lag.
+// Points, a ramp and a lag, in a row without names of its columns, which stays on a line.
 #[derive(Clone, Copy)]
 struct Load(&'static [At], i64, i64);
 

@@ -1,4 +1,6 @@
-// How answers, records and money are written, shown and compared.
+// How answers, records and money are written, shown and compared. Each `Display` but an error's is written by hand: no derive of
+// the library writes one. The columns of a row have no names, so that a table's rows stay short; the comment above a type names
+// them.
 use account::{Answer, ClosedBlock, PeriodFault};
 use either::{Either, Left, Right};
 use factors::PeriodFigures;

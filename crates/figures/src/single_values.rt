@@ -49,7 +49,8 @@ fn curves(report: &mut Report<impl Print>) -> io::Result<()> {
     tells(report, &AnyCurve::Points(Points::new()), &CONTAINMENT)
 }
 
-// An error E and its factor; and a frequency in mHz and a power in kW that, held, make E for a low contract of 50 MW.
+// A row, whose columns have no names so that it stays on a line: an error E and its factor; and a frequency in mHz and a power
+// in kW that, held, make E for a low contract of 50 MW.
 #[derive(Clone, Copy)]
 struct Factored(u64, u64, i64, i64);
 

@@ -1,6 +1,5 @@
-// A report: lines printed one after the other. A title and a total change nothing, and which bytes a runtime prints no contract
-// can say, so that these two have none.
-ghost use Rattle.std.specs.Prelude.{◌≡◌};
+// A report: lines printed one after the other. Which bytes a runtime prints no contract can say.
+ghost use Rattle.std.specs.Prelude.{◌≡◌, if◌then◌else◌, codes};
 ghost use Rattle.report.specs.Counts.{uncounted, counted};
 ghost use Rattle.report.specs.declared.counts.Counts.{Counts};
 
@@ -39,14 +38,15 @@ impl<R: Print> Report<R> {
         &self.rt
     }
 
-    // A line above some figures.
+    // A line above some figures. (No contract: it changes nothing, and only prints.)
     pub fn title<T: Display + Drop>(&self, text: T) -> io::Result<()> {
         self.rt.println(text)
     }
 
     // Counts a figure, and tells how its line ends.
     fn verdict(&mut self, same: bool) -> &'static str
-        ensures { self.new ≡ (self.old.0, counted same self.old.1) }
+        ensures told { result.now ≡ (if same then codes "ok" else codes "WRONG") }
+        ensures counted { self.new ≡ (self.old.0, counted same self.old.1) }
     {
         self.counts.count(same);
         if same { "ok" } else { "WRONG" }
@@ -85,7 +85,8 @@ impl<R: Print> Report<R> {
         println!(self.rt; "  {what}: {verdict}")
     }
 
-    // The last line: how many figures are as they should be, and how many are not.
+    // The last line: how many figures are as they should be, and how many are not. (No contract: it changes nothing, and only
+    // prints.)
     pub fn total(&self) -> io::Result<()> {
         let Counts { right, wrong } = self.counts;
         println!(self.rt; "{right} figures ok, {wrong} wrong")

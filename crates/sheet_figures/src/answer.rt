@@ -1,4 +1,4 @@
-// What reading and writing a line answer.
+// What reading and writing a line answer. Each `Display` but an error's is written by hand: no derive of the library writes one.
 use crate::visible::Visible;
 use either::Either;
 use report::Report;

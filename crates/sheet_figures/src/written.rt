@@ -188,6 +188,7 @@ const NOT_WRITTEN: [Entry; 9] = [
     Entry(Said::Curve(1, 1, &[ONE; 24]), &POINTS_24),
 ];
 
+// Terms are compared by their numbers: they have no `==`.
 fn numbers(terms: &TermsInput) -> [i64; 8] {
     let TermsInput {
         ticks,
