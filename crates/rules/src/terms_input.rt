@@ -5,14 +5,14 @@ ghost use Rattle.rules.specs.TermsCheck.{refused_terms, terms_number, some_held,
 use basics::require;
 
 // A contract's quantity in MW and price in pence per MW and hour, as handed in.
-#[derive(Clone, Copy)]
+#[derive(Clone, Copy, PartialEq, Eq, Debug)]
 pub struct Offer {
     pub quantity: i64,
     pub price: i64,
 }
 
 // Terms as handed in: any numbers at all.
-#[derive(Clone, Copy)]
+#[derive(Clone, Copy, PartialEq, Eq, Debug)]
 pub struct TermsInput {
     pub ticks: i64,
     pub needed: i64,
