@@ -71,11 +71,7 @@ fn batch_verdicts(report: &mut Report<impl Print>, batch: &[Entry]) -> io::Resul
 fn verdicts(report: &mut Report<impl Print>, calls: &[Call]) -> io::Result<()> {
     for call in calls {
         match call {
-            Call::Sample(entry) => report.compare(
-                "verdict of a sample",
-                entry.number(),
-                0,
-            )?,
+            Call::Sample(entry) => report.compare("verdict of a sample", entry.number(), 0)?,
             Call::Batch(batch) => batch_verdicts(report, batch)?,
         }
     }

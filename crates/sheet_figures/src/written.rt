@@ -188,32 +188,10 @@ const NOT_WRITTEN: [Entry; 9] = [
     Entry(Said::Curve(1, 1, &[ONE; 24]), &POINTS_24),
 ];
 
-// Terms are compared by their numbers: they have no `==`.
-fn numbers(terms: &TermsInput) -> [i64; 8] {
-    let TermsInput {
-        ticks,
-        needed,
-        a,
-        b,
-        low,
-        high,
-    } = *terms;
-    [
-        ticks,
-        needed,
-        a,
-        b,
-        low.quantity,
-        low.price,
-        high.quantity,
-        high.price,
-    ]
-}
-
 // Whether a line that was read says this.
 fn is_said(said: Said, line: Line) -> bool {
     match (said, line) {
-        (Said::Block(terms), Line::Block(read)) => numbers(&terms) == numbers(&read),
+        (Said::Block(terms), Line::Block(read)) => terms == read,
         (Said::Curve(ramp, lag, points), Line::Curve(read)) => ramp == read.ramp
             && lag == read.lag
             && points == read.points(),
