@@ -15,11 +15,11 @@ pub trait Order<T> {
     ghost ranks: { IsStrictWeakOrder before };
 }
 
-// The smaller number comes before.
+// The smaller comes before, whatever is ordered.
 #[derive(Clone, Copy)]
 pub struct Rising;
 
-// The greater number comes before.
+// The greater comes before.
 #[derive(Clone, Copy)]
 pub struct Falling;
 
