@@ -6,8 +6,7 @@ ghost use Rattle.factors.specs.Money.{settled, told};
 ghost use Rattle.factors.specs.Promises.{Promised};
 ghost use Rattle.factors.specs.Tally.{Tallied};
 
-use crate::factors::WHOLE;
-use crate::money::{earned, earning, lowest, scaled};
+use crate::money::come_to;
 use crate::settlement::{PeriodFigures, Settlement};
 use crate::tally::Tally;
 use rules::{Contract, PERIODS, Terms};
@@ -15,6 +14,7 @@ use std::array;
 
 impl Tally {
     // The figures of every period, in order.
+    #[tactic(auto, using(crate::proofs::FromFn::from_fn_same), unfolding(crate::specs::Factors::tabled))]
     fn tabled(&self, terms: &Terms) -> [PeriodFigures; PERIODS]
         ensures { result ≡ tabled terms.now self.now.records }
     {
@@ -23,18 +23,11 @@ impl Tally {
 
     // What the contract comes to: the figures of every period, the sum over the payable ones, the lowest factor and the
     // payment.
+    #[tactic(auto, using(crate::proofs::LowestFacts::tabled_most))]
     pub fn settle(&self, terms: &Terms, contract: Contract) -> Settlement
         ensures value { (js : List Judged) → Tallied self.now js → told result ≡ settled terms.now contract js }
         ensures promised { (js : List Judged) → Tallied self.now js → Promised terms.now contract js (told result) }
     {
-        let periods = self.tabled(terms);
-        let sum = earned(earning(terms, contract), &periods);
-        let factor = lowest(&periods);
-        Settlement {
-            periods,
-            sum,
-            factor,
-            payment: scaled(sum, factor, WHOLE),
-        }
+        come_to(terms, contract, self.tabled(terms))
     }
 }
