@@ -1,5 +1,5 @@
 -- What the steps over bytes say of them.
-use Rattle.std.proofs.Common.{◌≡◌, ℕ, ◌<◌, ◌≤◌, List, length, get_or, take, Some, None, Ok, Err, Result, Decides, refl, ap, sym, subst, inl, inr}
+use Rattle.std.proofs.Common.{◌≡◌, ℕ, ◌<◌, ◌≤◌, List, length, get_or, take, Option, Some, None, Ok, Err, Result, Decides, refl, ap, sym, subst, inl, inr}
 use Rattle.std.proofs.lemmas.List.{take_all}
 use Rattle.std.proofs.lemmas.Bool.{cond_both}
 use Rattle.std.proofs.lemmas.Bool.Decides.{not_from_Decides}
@@ -22,7 +22,10 @@ Reached bytes i s = run 9 4 Start (take i bytes) ≡ Some s
 
 -- The byte after them does not fit.
 module _ (bytes : List ℕ) (i : ℕ) (s : State) (inside : i < length bytes) (so_far : Reached bytes i s)
-    (sticks : step 9 4 s (get_or bytes i 0) ≡ None) where
+    (next : Option State) (is : next ≡ step 9 4 s (get_or bytes i 0)) (none : next ≡ None) where
+  sticks : step 9 4 s (get_or bytes i 0) ≡ None
+  sticks = cc
+
   first_misfit : FirstMisfit bytes i
   first_misfit = record {
     inside = inside;
