@@ -5,6 +5,7 @@ mod digits;
 mod fault;
 mod number;
 mod reading;
+mod text;
 mod writing;
 
 pub use fault::WriteFault;
