@@ -1,9 +1,11 @@
 -- What it says of points, a ramp and a lag that there is no fault in them.
-use Rattle.std.specs.Prelude.{◌≡◌, ℕ, ◌≤◌, Bool, true, false, not, ◌&&◌, List, length, ℤ, pos, ◌≤ℤ◌, is_some, Some, None, Option, int_le, nat_le, refl}
+use Rattle.std.specs.Prelude.{◌≡◌, ℕ, ◌≤◌, Bool, true, false, not, ◌&&◌, List, length, take, ℤ, pos, ◌≤ℤ◌, is_some, Some, None, Option, int_le, nat_le, refl}
 use Rattle.std.proofs.Common.{ap, arith}
 use Rattle.std.proofs.lemmas.Int.{ints}
+use Rattle.std.proofs.lemmas.List.{take_all}
 use Rattle.std.proofs.lemmas.Bool.{and_parts, leb-true}
-use Rattle.curve.specs.Loading.{within, countable, rising, starts, climbs, climbing, full_parts, unless, refused_points, accepted}
+use Rattle.basics.specs.Check.{unless, within}
+use Rattle.curve.specs.Loading.{countable, rising, starts, climbs, climbing, full_parts, refused_points, accepted}
 use Rattle.curve.specs.declared.loading.Point.{Point}
 use Rattle.curve.specs.declared.loading.PointsFault.{PointsFault}
 use Rattle.curve.specs.declared.loading.PointsFault.TheVariants.{Count, Deviation, Parts, Ramp, Lag}
@@ -55,6 +57,10 @@ all_met points ramp lag none =
       some_lag = l.0;
       most_lag = l.1;
     }
+
+-- Accepted points fit eight places.
+pub all_kept : (points : List Point) (ramp lag : ℤ) → refused_points points ramp lag ≡ None → take 8 points ≡ points
+all_kept points ramp lag none = take_all 8 points (all_met points ramp lag none).most_points
 
 -- The test that a curve's own points meet, and back.
 pub none_accepted : (points : List Point) (ramp lag : ℤ) → refused_points points ramp lag ≡ None → accepted points ramp lag ≡ true

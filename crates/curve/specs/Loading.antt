@@ -1,12 +1,9 @@
 -- Which points, ramp and lag a points curve accepts, and why it refuses others. Assumes nothing.
-use Rattle.std.specs.Prelude.{ℕ, Bool, true, cond, not, ◌&&◌, List, [], ◌∷◌, length, ℤ, pos, negsuc, is_some, Some, None, Option, int_le, int_lt, nat_le}
+use Rattle.std.specs.Prelude.{ℕ, Bool, true, not, ◌&&◌, List, [], ◌∷◌, length, ℤ, pos, negsuc, is_some, None, Option, int_le, int_lt, nat_le}
+use Rattle.basics.specs.Check.{unless, within}
 use Rattle.curve.specs.declared.loading.Point.{Point}
 use Rattle.curve.specs.declared.loading.PointsFault.{PointsFault}
 use Rattle.curve.specs.declared.loading.PointsFault.TheVariants.{Count, Deviation, Parts, Ramp, Lag}
-
--- From low to high, both ends included.
-abbrev pub within : ℤ → ℤ → ℤ → Bool
-within low high z = int_le low z && int_le z high
 
 -- 2 to 8 points.
 abbrev pub countable : ℕ → Bool
@@ -47,10 +44,6 @@ starts (p ∷ ps) = within (pos 0) (pos 0) p.parts
 -- The first parts are 0, none are below the ones before, and the last are 1 to 1,000,000.
 abbrev pub climbing : List Point → Bool
 climbing points = starts points && (climbs (pos 0) points && within (pos 1) (pos 1000000) (full_parts points))
-
--- A fault unless a test is met; what comes after it otherwise.
-abbrev pub unless : Bool → PointsFault → Option PointsFault → Option PointsFault
-unless met fault rest = cond met rest (Some fault)
 
 -- The first fault, in this order.
 abbrev pub refused_points : List Point → ℤ → ℤ → Option PointsFault

@@ -6,7 +6,8 @@ use Rattle.std.specs.Float.Ieee.Nearest.{div_mono}
 use Rattle.std.proofs.lemmas.List.{drop_more, take_all}
 use Rattle.std.proofs.lemmas.Int.{ints}
 use Rattle.std.proofs.lemmas.Bool.{both_ways, and_parts, cond-true, cond-false, cond_both, le-leb, lt-leb, leb-true, leb-false}
-use Rattle.curve.specs.Loading.{within, follows, rises, rising, starts, climbs, climbing, last_parts, full_parts, refused_points}
+use Rattle.basics.specs.Check.{within}
+use Rattle.curve.specs.Loading.{follows, rises, rising, starts, climbs, climbing, last_parts, full_parts, refused_points}
 use Rattle.curve.specs.Shape.{IsCurve}
 use Rattle.curve.specs.Points.{at, height, line, beyond, along, points_shape, Neighbours, Onward}
 use Rattle.curve.specs.declared.loading.Point.{Point}

@@ -1,4 +1,4 @@
-// Either make of curve, chosen while the program runs.
+// Either make of curve, chosen while the program runs. An enum and not a `dyn Curve`: it is copied and needs no heap.
 ghost use Rattle.std.specs.Prelude.{◌≡◌, ℕ, ◌≤◌};
 ghost use Rattle.curve.specs.Choice.{chosen_shape};
 ghost use Rattle.curve.specs.HeldFacts.{chosen_is_curve};

@@ -4,23 +4,22 @@ ghost use Rattle.account.specs.Closed.{told_of, period_record, period_number};
 ghost use Rattle.factors.specs.Money.{told};
 
 use crate::closed_block::ClosedBlock;
+use basics::require;
 use factors::{PeriodFigures, Settlement};
 use rules::{Contract, PERIODS};
 
-// Why there is no record of a period.
+// Why there is no record of a period, with the number by which the fault is reported.
 #[derive(Clone, Copy, PartialEq, Eq, Debug)]
 pub enum PeriodFault {
     // The number is outside 0 to 7.
-    NoSuchPeriod,
+    NoSuchPeriod = 26,
 }
 
 impl PeriodFault {
     pub fn number(self) -> u32
         ensures { result ≡ period_number self }
     {
-        match self {
-            PeriodFault::NoSuchPeriod => 26,
-        }
+        self as u32
     }
 }
 
@@ -64,9 +63,10 @@ impl<C> ClosedBlock<C> {
     ) -> Result<PeriodFigures, PeriodFault>
         ensures { result ≡ period_record (told_of contract self.now) number }
     {
-        if number < 0 || number >= PERIODS as i64 {
-            return Err(PeriodFault::NoSuchPeriod);
-        }
+        require(
+            (0..PERIODS as i64).contains(&number),
+            PeriodFault::NoSuchPeriod,
+        )?;
         Ok(self.settlement(contract).periods[number as usize])
     }
 

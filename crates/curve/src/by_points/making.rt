@@ -1,5 +1,5 @@
 // How a points curve is made and loaded.
-ghost use Rattle.std.specs.Prelude.{◌≡◌, ℕ, ◌≤◌, length, take, Some, None, Ok, Err};
+ghost use Rattle.std.specs.Prelude.{◌≡◌, Some, None, Ok, Err};
 ghost use Rattle.curve.specs.Containment.{containment};
 ghost use Rattle.curve.specs.Loading.{refused_points};
 ghost use Rattle.curve.specs.Points.{points_shape};
@@ -8,49 +8,31 @@ ghost use Rattle.curve.specs.Shape.{SameShape};
 
 use crate::by_points::Points;
 use crate::loading::{Point, PointsFault, check};
+use basics::Few;
 
-const NONE: Point = Point {
-    deviation: 0,
-    parts: 0,
-};
-
-// These points, at the front of a full array.
-fn front(points: &[Point]) -> [Point; 8]
-    requires { length points.now ≤ 8 }
-    ensures { take (length points.now) result ≡ points.now }
-{
-    let mut held = [NONE; 8];
-    held[0..points.len()].copy_from_slice(points);
-    held
-}
+// Containment's points.
+const CONTAINMENT: [Point; 3] = [
+    Point {
+        deviation: 15,
+        parts: 0,
+    },
+    Point {
+        deviation: 200,
+        parts: 11_100,
+    },
+    Point {
+        deviation: 500,
+        parts: 222_000,
+    },
+];
 
 impl Points {
     // Containment's points, ramp and lag, which are held before any loading.
     pub fn new() -> Self
         ensures { SameShape (held_shape result) containment }
     {
-        let points = [
-            Point {
-                deviation: 15,
-                parts: 0,
-            },
-            Point {
-                deviation: 200,
-                parts: 11_100,
-            },
-            Point {
-                deviation: 500,
-                parts: 222_000,
-            },
-            NONE,
-            NONE,
-            NONE,
-            NONE,
-            NONE,
-        ];
         Points {
-            points,
-            count: 3,
+            points: Few::first(&CONTAINMENT),
             ramp: 22_200,
             lag: 10,
         }
@@ -63,8 +45,7 @@ impl Points {
     {
         check(points, ramp, lag)?;
         *self = Points {
-            points: front(points),
-            count: points.len(),
+            points: Few::first(points),
             ramp,
             lag,
         };

@@ -17,7 +17,7 @@ impl Points {
         ensures rise { rising result.now ≡ true }
         ensures climb { climbing result.now ≡ true }
     {
-        &self.points[0..self.count]
+        self.points.as_slice()
     }
 }
 
