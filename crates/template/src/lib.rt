@@ -10,4 +10,5 @@ mod writing;
 
 pub use fault::WriteFault;
 pub use reading::read_filled;
+pub use text::LONGEST;
 pub use writing::write_filled;

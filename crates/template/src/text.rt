@@ -5,7 +5,8 @@ ghost use Rattle.template.specs.Templates.{PutBehind};
 use crate::fault::WriteFault;
 use arrayvec::ArrayVec;
 
-const LONGEST: usize = 200;
+// The most bytes that a text has.
+pub const LONGEST: usize = 200;
 
 pub type Text = ArrayVec<u8, LONGEST>;
 
