@@ -1,5 +1,5 @@
 -- What the reader answers is right, and it reads every line.
-use Rattle.std.proofs.Common.{◌≡◌, ℕ, ◌+◌, ◌*◌, ◌≤◌, true, List, [], ◌∷◌, length, get_or, take, drop, ℤ, pos, Some, None, Err, Option, Result, sym, refl, ap, ◌∙◌, subst, inl, inr, arith}
+use Rattle.std.proofs.Common.{◌≡◌, ℕ, ◌+◌, ◌≤◌, true, List, [], ◌∷◌, length, get_or, take, drop, ℤ, pos, Some, None, Err, Option, Result, sym, refl, ap, ◌∙◌, subst, inl, inr, arith}
 use Rattle.std.proofs.lemmas.List.{take-append-drop}
 use Rattle.curve.specs.declared.loading.Point.{Point}
 use Rattle.rules.specs.declared.reading.Reading.{Reading}
@@ -12,13 +12,13 @@ use Rattle.form.specs.declared.misfit.Kind.TheVariants.{Alien, Misplaced, TooDee
 use Rattle.template.proofs.FilledRead.{fill_same}
 use Rattle.template.specs.Templates.{all_short, fill}
 use Rattle.sheet.specs.Lines.{block_numbers, block_template, curve_template, IsLine, line_numbers, of_block, of_curve, of_reading, points_numbers, reading_numbers, reading_template, Said, text}
-use Rattle.sheet.specs.Kinds.{BlockRead, CurveRead, ReadingRead}
+use Rattle.sheet.specs.Kinds.{CurveRead, KindRead}
 use Rattle.sheet.specs.Reads.{Answered, ReadsEveryLine}
 use Rattle.sheet.specs.declared.faults.ReadFault.{ReadFault}
 use Rattle.sheet.specs.declared.faults.ReadFault.TheVariants.{Unfit}
 use Rattle.sheet.specs.declared.line.Line.{Line}
 use Rattle.sheet.proofs.FormsOfLines.{line_form}
-use Rattle.sheet.proofs.KindsRead.{apart_curve, holes_curve, some_points}
+use Rattle.sheet.proofs.KindsRead.{apart_curve, holes_curve, length_numbers, some_points}
 
 -- Nothing is wrong with a form.
 completed : (bytes : List ℕ) (k : ℕ) → IsForm 10 4 bytes → Completable 10 4 (take k bytes)
@@ -68,10 +68,6 @@ same_points [] (q ∷ qs) same = absurd (omega (arith, ap length same))
 same_points (p ∷ ps) [] same = absurd (omega (arith, ap length same))
 same_points (p ∷ ps) (q ∷ qs) same = ap (λ x. x ∷ ps) (ap first_back same) ∙ ap (λ xs. q ∷ xs) (same_points ps qs (ap (drop 2) same))
 
-length_numbers : (ps : List Point) → length (points_numbers ps) ≡ 2 * length ps
-length_numbers [] = refl
-length_numbers (p ∷ ps) = omega (arith, length_numbers ps)
-
 curves_same : (bytes : List ℕ) (ramp lag ramp' lag' : ℤ) (ps qs : List Point) → IsLine bytes (of_curve ramp lag ps) → IsLine bytes (of_curve ramp' lag' qs)
     → of_curve ramp lag ps ≡ of_curve ramp' lag' qs
 curves_same bytes ramp lag ramp' lag' ps qs one other =
@@ -113,7 +109,7 @@ unfit bytes misfit r within wrong is =
     subst (λ (v : Result Line ReadFault). Answered bytes v × ReadsEveryLine bytes v) (sym is)
     ((within, wrong), λ said line. absurd (not_wrong bytes misfit.byte misfit.kind (line_form bytes said line) wrong))
 
-pub no_line : (bytes : List ℕ) → ReadingRead bytes None → BlockRead bytes None → CurveRead bytes None → (said : Said) → IsLine bytes said → ⊥
+pub no_line : (bytes : List ℕ) → KindRead of_reading bytes None → KindRead of_block bytes None → CurveRead bytes None → (said : Said) → IsLine bytes said → ⊥
 no_line bytes no_reading no_block no_curve (of_block t) line = no_block t line
 no_line bytes no_reading no_block no_curve (of_curve ramp lag ps) line = no_curve ramp lag ps line
 no_line bytes no_reading no_block no_curve (of_reading r) line = no_reading r line

@@ -1,7 +1,10 @@
 -- Opening brackets: one more, and how many a filled template has.
-use Rattle.std.proofs.Common.{◌≡◌, ℕ, suc, ◌+◌, ◌^◌, ◌<◌, ◌≤◌, true, cond, ◌&&◌, List, [], ◌∷◌, ◌++◌, length, get_or, drop, ℤ, pos, negsuc, decimal, refl, ap, ◌∙◌, arith}
+use Rattle.std.proofs.Common.{◌≡◌, ℕ, suc, ◌^◌, ◌<◌, ◌≤◌, true, cond, ◌&&◌, List, [], ◌∷◌, ◌++◌, length, ℤ, pos, negsuc, decimal, sym, refl, ap, ◌∙◌, arith}
 use Rattle.std.proofs.lemmas.Fmt.{digits_decimal}
-use Rattle.std.proofs.lemmas.List.{at_drop_more}
+use Rattle.std.proofs.lemmas.List.Recursion.{is_count_by}
+use Rattle.std.proofs.Math.Numerals.{one-add}
+use Rattle.std.specs.Bool.{◌==◌}
+use Rattle.std.specs.List.{count_by}
 use Rattle.std.proofs.lemmas.Bool.{and_parts, eq-eqb, leb-true, ltb-true, ne_eqb}
 use Rattle.std.specs.Char.{is_ascii_digit}
 use Rattle.std.specs.Fmt.{signed_decimal}
@@ -19,11 +22,8 @@ bracket b bs is = ap (λ test. cond test (suc (openings bs)) (openings bs)) (eq-
 no_bracket : (b : ℕ) (bs : List ℕ) → (b ≡ 40 → ⊥) → openings (b ∷ bs) ≡ openings bs
 no_bracket b bs not = ap (λ test. cond test (suc (openings bs)) (openings bs)) (ne_eqb b 40 not)
 
-pub opening_more : (bs : List ℕ) (i : ℕ) → i < length bs → get_or bs i 0 ≡ 40 → openings (drop i bs) ≡ suc (openings (drop (i + 1) bs))
-opening_more bs i inside is = at_drop_more openings bs i 0 inside ∙ bracket (get_or bs i 0) (drop (i + 1) bs) is
-
-pub no_opening_more : (bs : List ℕ) (i : ℕ) → i < length bs → (get_or bs i 0 ≡ 40 → ⊥) → openings (drop i bs) ≡ openings (drop (i + 1) bs)
-no_opening_more bs i inside not = at_drop_more openings bs i 0 inside ∙ no_bracket (get_or bs i 0) (drop (i + 1) bs) not
+pub openings_counted : (bs : List ℕ) → openings bs ≡ count_by (λ b. b == 40) bs
+openings_counted bs = is_count_by openings (λ b. b == 40) refl (λ b bs. ap (λ n. cond (b == 40) n (openings bs)) (sym (one-add (openings bs)))) bs
 
 digits_none : (ds rest : List ℕ) → all_ascii_digits ds ≡ true → openings (ds ++ rest) ≡ openings rest
 digits_none [] rest digits = refl

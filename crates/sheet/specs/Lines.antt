@@ -1,5 +1,6 @@
 -- The three lines of a sheet and their text. Assumes nothing.
-use Rattle.std.specs.Prelude.{◌≡◌, ℕ, zero, suc, ◌≤◌, true, List, [], ◌∷◌, ◌++◌, length, take, ℤ, codes}
+use Rattle.std.specs.Prelude.{◌≡◌, ℕ, zero, suc, ◌≤◌, true, List, [], ◌∷◌, ◌++◌, length, ℤ, codes}
+use Rattle.basics.specs.Few.{items}
 use Rattle.curve.specs.declared.loading.Point.{Point}
 use Rattle.rules.specs.declared.reading.Reading.{Reading}
 use Rattle.rules.specs.declared.terms_input.TermsInput.{TermsInput}
@@ -63,7 +64,7 @@ pub record IsLine (bytes : List ℕ) (said : Said) : Type 0 where
 
 -- What the program's lines say.
 abbrev pub points_of : CurveLine → List Point
-points_of line = take line.count line.points
+points_of line = items line.points
 
 abbrev pub curve_said : CurveLine → Said
 curve_said line = of_curve line.ramp line.lag (points_of line)

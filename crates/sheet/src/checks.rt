@@ -10,8 +10,7 @@ use rules::{Terms, TermsInput, check_terms};
 pub fn terms_of(input: &TermsInput) -> Result<Terms, Cause>
     ensures { CheckedBlock input.now result }
 {
-    let terms = check_terms(input)?;
-    Ok(terms)
+    Ok(check_terms(input)?)
 }
 
 // The curve of a curve line.

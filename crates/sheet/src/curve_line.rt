@@ -1,18 +1,15 @@
-// A curve line: ramp, lag and points. A line of 200 bytes holds 23 points at most.
-ghost use Rattle.std.specs.Prelude.{◌≤◌};
-
+// A curve line: ramp, lag and points.
+use basics::Few;
 use curve::Point;
 
 pub mod points;
 
+// A line of 200 bytes holds no more.
 pub const MOST_POINTS: usize = 23;
 
-// The first `count` points are the line's.
 #[derive(Clone, Copy)]
 pub struct CurveLine {
     pub ramp: i64,
     pub lag: i64,
-    points: [Point; 23],
-    count: usize,
-    ghost few: { count ≤ 23 },
+    points: Few<Point, MOST_POINTS>,
 }

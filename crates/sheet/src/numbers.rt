@@ -1,63 +1,128 @@
-// The numbers of block and reading lines, in the order in which they are written.
-ghost use Rattle.std.specs.Prelude.{◌≡◌};
-ghost use Rattle.sheet.specs.Lines.{block_numbers, reading_numbers};
-
+// Lines that have always as many numbers: what they say, and their numbers in the order in which they are written.
 use rules::{Offer, Reading, TermsInput};
 
-pub fn block_numbers(terms: &TermsInput) -> [i64; 8]
-    ensures { result ≡ block_numbers terms.now }
-{
-    [
-        terms.ticks,
-        terms.needed,
-        terms.a,
-        terms.b,
-        terms.low.quantity,
-        terms.low.price,
-        terms.high.quantity,
-        terms.high.price,
-    ]
+pub trait Numbered<const N: usize> {
+    ghost use Rattle.std.specs.Prelude.{◌≡◌, ℕ, true, List};
+    ghost use Rattle.template.specs.Templates.{apart, holes};
+    ghost use Rattle.sheet.specs.Lines.{line_numbers, line_template, Said};
+
+    ghost says: { Self → Said };
+
+    ghost open_text: { List ℕ };
+
+    // The line's text, with # where a number stands.
+    fn template() -> &'static [u8]
+        ensures { result.now ≡ open_text };
+
+    fn numbers(&self) -> [i64; N]
+        ensures { result ≡ line_numbers (says self.now) };
+
+    fn of_numbers(numbers: &[i64; N]) -> Self
+        ensures { line_numbers (says result) ≡ numbers.now };
+
+    // One text serves for all that such a line can say, and it can be told where each of its N numbers ends.
+    ghost one_text: { (x : Self) → line_template (says x) ≡ open_text };
+
+    ghost has_holes: { holes open_text ≡ N };
+
+    ghost stands_apart: { apart open_text ≡ true };
 }
 
-pub fn block_of(numbers: &[i64; 8]) -> TermsInput
-    ensures { block_numbers result ≡ numbers.now }
-{
-    TermsInput {
-        ticks: numbers[0],
-        needed: numbers[1],
-        a: numbers[2],
-        b: numbers[3],
-        low: Offer {
-            quantity: numbers[4],
-            price: numbers[5],
-        },
-        high: Offer {
-            quantity: numbers[6],
-            price: numbers[7],
-        },
+impl Numbered<8> for TermsInput {
+    ghost use Rattle.std.specs.Prelude.{refl};
+    ghost use Rattle.sheet.specs.Lines.{block_template, of_block};
+
+    ghost says = { of_block };
+
+    ghost open_text = { block_template };
+
+    ghost one_text = { λ x. refl };
+
+    ghost has_holes = { refl };
+
+    ghost stands_apart = { refl };
+
+    fn template() -> &'static [u8] {
+        b"(block # # (band # #) (low # #) (high # #))"
+    }
+
+    fn numbers(&self) -> [i64; 8] {
+        [
+            self.ticks,
+            self.needed,
+            self.a,
+            self.b,
+            self.low.quantity,
+            self.low.price,
+            self.high.quantity,
+            self.high.price,
+        ]
+    }
+
+    fn of_numbers(numbers: &[i64; 8]) -> TermsInput {
+        let [
+            ticks,
+            needed,
+            a,
+            b,
+            low_quantity,
+            low_price,
+            high_quantity,
+            high_price,
+        ] = *numbers;
+        TermsInput {
+            ticks,
+            needed,
+            a,
+            b,
+            low: Offer {
+                quantity: low_quantity,
+                price: low_price,
+            },
+            high: Offer {
+                quantity: high_quantity,
+                price: high_price,
+            },
+        }
     }
 }
 
-pub fn reading_numbers(reading: &Reading) -> [i64; 5]
-    ensures { result ≡ reading_numbers reading.now }
-{
-    [
-        reading.tick,
-        reading.frequency,
-        reading.power,
-        reading.baseline,
-        reading.flag,
-    ]
-}
+impl Numbered<5> for Reading {
+    ghost use Rattle.std.specs.Prelude.{refl};
+    ghost use Rattle.sheet.specs.Lines.{of_reading, reading_template};
 
-pub fn reading_of(numbers: &[i64; 5]) -> Reading
-    ensures { reading_numbers result ≡ numbers.now }
-{
-    Reading {
-        tick: numbers[0],
-        frequency: numbers[1],
-        power: numbers[2],
-        baseline: numbers[3],
-        flag: numbers[4],
+    ghost says = { of_reading };
+
+    ghost open_text = { reading_template };
+
+    ghost one_text = { λ x. refl };
+
+    ghost has_holes = { refl };
+
+    ghost stands_apart = { refl };
+
+    fn template() -> &'static [u8] {
+        b"(s # # # # #)"
+    }
+
+    fn numbers(&self) -> [i64; 5] {
+        [
+            self.tick,
+            self.frequency,
+            self.power,
+            self.baseline,
+            self.flag,
+        ]
+    }
+
+    fn of_numbers(numbers: &[i64; 5]) -> Reading {
+        let [tick, frequency, power, baseline, flag] = *numbers;
+        Reading {
+            tick,
+            frequency,
+            power,
+            baseline,
+            flag,
+        }
     }
 }

@@ -13,8 +13,8 @@ pub fn read_back(line: &Line, out: &mut [u8]) -> Result<Line, WriteFault>
     ensures { SaidAgain (said_by line.now) out.old out.new result }
 {
     let length = write_line(line, out)?;
-    match read_line(&out[0..length]) {
+    match read_line(&out[..length]) {
         Ok(read) => Ok(read),
-        Err(_) => unreachable(),
+        Err(_) => unreachable!(),
     }
 }

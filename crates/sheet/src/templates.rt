@@ -1,29 +1,20 @@
-// The lines of a sheet, with # where a number stands.
-ghost use Rattle.std.specs.Prelude.{◌≡◌, ◌+◌, ◌*◌, ◌≤◌, take};
+// Curve lines, with # where a number stands.
+ghost use Rattle.std.specs.Prelude.{◌≡◌, ◌≤◌};
+ghost use Rattle.basics.specs.Few.{items};
 ghost use Rattle.sheet.specs.Lines.{curve_template};
 
-pub const BLOCK: [u8; 43] = *b"(block # # (band # #) (low # #) (high # #))";
-
-pub const READING: [u8; 13] = *b"(s # # # # #)";
+use basics::Few;
 
 // A curve line of 23 points.
 const CURVE: [u8; 195] =
     *b"(curve # # (p # #) (p # #) (p # #) (p # #) (p # #) (p # #) (p # #) (p # #) (p # #) (p # #) (p # #) (p # #) (p # #) (p # #) (p # #) (p # #) (p # #) (p # #) (p # #) (p # #) (p # #) (p # #) (p # #))";
 
-// How long the template of a curve line with so many points is.
-pub fn curve_length(points: usize) -> usize
+// The template of a curve line with so many points.
+pub fn curve_template(points: usize) -> Few<u8, 195>
     requires { points ≤ 23 }
-    ensures { result ≡ 8 * points + 11 }
-{
-    8 * points + 11
-}
-
-// The template of a curve line with so many points, at the front of the array.
-pub fn curve_template(points: usize) -> [u8; 195]
-    requires { points ≤ 23 }
-    ensures { take (8 * points + 11) result ≡ curve_template points }
+    ensures { items result ≡ curve_template points }
 {
     let mut template = CURVE;
     template[8 * points + 10] = b')';
-    template
+    Few::first(&template[..8 * points + 11])
 }

@@ -1,38 +1,43 @@
 // Lines written at the front of a buffer.
+ghost use Rattle.std.specs.Prelude.{◌≤◌};
 ghost use Rattle.sheet.specs.Lines.{curve_said, of_block, of_reading, said_by};
 ghost use Rattle.sheet.specs.Writes.{Written};
 
 use crate::curve_line::CurveLine;
 use crate::line::Line;
-use crate::numbers::{block_numbers, reading_numbers};
-use crate::templates::{BLOCK, READING, curve_length, curve_template};
+use crate::numbers::Numbered;
+use crate::templates::curve_template;
 use rules::{Reading, TermsInput};
 use template::{WriteFault, write_filled};
 
-// Writes a block line, and says how many bytes it has; or says why not, and leaves the buffer as it was.
+// Writes a line that has always as many numbers, and says how many bytes it has; or says why not, and leaves the buffer as it was.
+fn write_kind<const N: usize, T: Numbered<N>>(said: &T, out: &mut [u8]) -> Result<usize, WriteFault>
+    requires { N ≤ 100 }
+    ensures { Written (T.says said.now) out.old out.new result }
+{
+    write_filled(T::template(), &said.numbers(), out)
+}
+
+// Writes a block line in this way.
 pub fn write_block(terms: &TermsInput, out: &mut [u8]) -> Result<usize, WriteFault>
     ensures { Written (of_block terms.now) out.old out.new result }
 {
-    write_filled(&BLOCK, &block_numbers(terms), out)
+    write_kind(terms, out)
 }
 
 // Writes a curve line in the same way.
 pub fn write_curve(line: &CurveLine, out: &mut [u8]) -> Result<usize, WriteFault>
     ensures { Written (curve_said line.now) out.old out.new result }
 {
-    let points = line.points().len();
-    let template = curve_template(points);
-    let length = curve_length(points);
-    let numbers = line.numbers();
-    let many = 2 * points + 2;
-    write_filled(&template[0..length], &numbers[0..many], out)
+    let template = curve_template(line.points().len());
+    write_filled(template.as_slice(), line.numbers().as_slice(), out)
 }
 
 // Writes a reading line in the same way.
 pub fn write_reading(reading: &Reading, out: &mut [u8]) -> Result<usize, WriteFault>
     ensures { Written (of_reading reading.now) out.old out.new result }
 {
-    write_filled(&READING, &reading_numbers(reading), out)
+    write_kind(reading, out)
 }
 
 // Writes any line in the same way.

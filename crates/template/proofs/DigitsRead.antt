@@ -1,37 +1,28 @@
 -- Digits at the front of bytes: how many there are, and what they come to.
-use Rattle.std.proofs.Common.{◌≡◌, ℕ, zero, suc, ◌+◌, ◌-◌, ◌*◌, ◌^◌, ◌<◌, ◌≤◌, true, false, cond, ◌&&◌, List, [], ◌∷◌, ◌++◌, length, get_or, take, drop, ℤ, pos, negsuc, neg_ℤ, decimal, sym, refl, ap, ◌∙◌, inl, inr, add-one, arith, rules}
+use Rattle.std.proofs.Common.{◌≡◌, ℕ, zero, suc, ◌+◌, ◌-◌, ◌*◌, ◌^◌, ◌<◌, ◌≤◌, true, false, cond, ◌&&◌, List, [], ◌∷◌, ◌++◌, length, get_or, take, drop, ℤ, pos, negsuc, neg_ℤ, decimal, sym, refl, ap, ◌∙◌, subst, inl, inr, add-one, arith, rules}
+use native.Mathlib.Numerals.{one-add}
 use native.Mathlib.Nat.{pow-le-pow_right}
-use Rattle.std.proofs.lemmas.List.{at_drop_more, at_drop_all, drop_at, take_at, get_or_append_left, get_or-take, length-take-le, take-append-drop}
+use Rattle.std.proofs.lemmas.List.{at_drop_more, at_drop_all, drop_at, take_at, take-append-drop}
 use Rattle.std.proofs.lemmas.Bool.{and_from, and_parts, cases_Bool, cases_lt, cases_order, leb-true, lt-ltb, ltb-true}
 use Rattle.std.proofs.lemmas.Fmt.{decimal_digit, decimal_nonempty, decimal-digits_value, digits_decimal, first_decimal, length-decimal-le, decimal_injective}
 use Rattle.std.proofs.lemmas.Str.Parse.{IsNumeralModel, numerals_by_fold, digits_value_short}
 use Rattle.std.specs.Char.{is_ascii_digit}
+use Rattle.std.specs.List.{prefix_len}
 use Rattle.std.specs.Str.{all_ascii_digits}
-use Rattle.template.specs.Numbers.{leading, read_on, digit_first, Leads, LeadsPlain}
+use Rattle.template.specs.Numbers.{read_on, digit_first, Leads, LeadsPlain}
 
 pub own : IsNumeralModel (λ ds. all_ascii_digits ds ≡ true) (read_on 0)
 own = numerals_by_fold _ (search rules) read_on (search rules)
 
+-- How many digits bytes begin with.
+abbrev pub leading : List ℕ → ℕ
+leading bytes = prefix_len is_ascii_digit bytes
+
 leading_front : (b : ℕ) (bs : List ℕ) → is_ascii_digit b ≡ true → leading (b ∷ bs) ≡ suc (leading bs)
-leading_front b bs is = ap (λ t. cond t (suc (leading bs)) 0) is
+leading_front b bs is = ap (λ t. cond t (1 + leading bs) 0) is ∙ one-add (leading bs)
 
 leading_other : (b : ℕ) (bs : List ℕ) → is_ascii_digit b ≡ false → leading (b ∷ bs) ≡ 0
-leading_other b bs is = ap (λ t. cond t (suc (leading bs)) 0) is
-
-pub leading_more : (bs : List ℕ) (i : ℕ) → i < length bs → is_ascii_digit (get_or bs i 0) ≡ true
-    → i + leading (drop i bs) ≡ leading bs → (i + 1) + leading (drop (i + 1) bs) ≡ leading bs
-leading_more bs i inside is so_far =
-    let e = at_drop_more leading bs i 0 inside ∙ leading_front (get_or bs i 0) (drop (i + 1) bs) is in
-    omega arith
-
-pub leading_here : (bs : List ℕ) (i : ℕ) → i < length bs → is_ascii_digit (get_or bs i 0) ≡ false
-    → i + leading (drop i bs) ≡ leading bs → i ≡ leading bs
-leading_here bs i inside is so_far =
-    let e = at_drop_more leading bs i 0 inside ∙ leading_other (get_or bs i 0) (drop (i + 1) bs) is in
-    omega arith
-
-pub leading_all : (bs : List ℕ) (i : ℕ) → length bs ≤ i → i ≤ length bs → i + leading (drop i bs) ≡ leading bs → length bs ≡ leading bs
-leading_all bs i past within so_far = let e = at_drop_all leading bs i past in omega arith
+leading_other b bs is = ap (λ t. cond t (1 + leading bs) 0) is
 
 grows_to : (i : ℕ) → i ≤ 9 → 10 ^ i ≤ 10 ^ 9
 grows_to i few = pow-le-pow_right (omega arith) few
@@ -60,7 +51,7 @@ pub value_all : (ds : List ℕ) (i n : ℕ) → length ds ≤ i → read_on n (d
 value_all ds i n past so_far = sym (at_drop_all (read_on n) ds i past) ∙ so_far
 
 -- The digits that bytes begin with, and what comes after them.
-pub front_digits : (bs : List ℕ) → all_ascii_digits (take (leading bs) bs) ≡ true
+front_digits : (bs : List ℕ) → all_ascii_digits (take (leading bs) bs) ≡ true
 front_digits [] = refl
 front_digits (b ∷ bs) =
     elim (cases_Bool (is_ascii_digit b)) [
@@ -68,7 +59,7 @@ front_digits (b ∷ bs) =
       | inr not ↦ rw (leading_other b bs not) refl
     ]
 
-pub after_digits : (bs : List ℕ) → digit_first (drop (leading bs) bs) ≡ false
+after_digits : (bs : List ℕ) → digit_first (drop (leading bs) bs) ≡ false
 after_digits [] = refl
 after_digits (b ∷ bs) =
     elim (cases_Bool (is_ascii_digit b)) [
@@ -76,80 +67,12 @@ after_digits (b ∷ bs) =
       | inr not ↦ rw (leading_other b bs not) not
     ]
 
-pub leading_within : (bs : List ℕ) → leading bs ≤ length bs
-leading_within [] = omega arith
-leading_within (b ∷ bs) =
-    elim (cases_Bool (is_ascii_digit b)) [
-      | inl is ↦ rw (leading_front b bs is) (omega (arith, leading_within bs))
-      | inr not ↦ rw (leading_other b bs not) (omega arith)
-    ]
-
-pub leading_joined : (ds rest : List ℕ) → all_ascii_digits ds ≡ true → digit_first rest ≡ false → leading (ds ++ rest) ≡ length ds
+leading_joined : (ds rest : List ℕ) → all_ascii_digits ds ≡ true → digit_first rest ≡ false → leading (ds ++ rest) ≡ length ds
 leading_joined [] [] digits whole = refl
 leading_joined [] (b ∷ bs) digits whole = leading_other b bs whole
 leading_joined (d ∷ ds) rest digits whole =
     let both = and_parts (is_ascii_digit d) (all_ascii_digits ds) digits in
     leading_front d (ds ++ rest) both.0 ∙ ap suc (leading_joined ds rest both.1 whole)
-
--- What holds of the digits at the front where bytes begin with a number.
-pub record Fronted (bytes : List ℕ) : Type 0 where
-  pub some : 0 < leading bytes
-  pub few : leading bytes ≤ 10
-  pub no_nought : 1 < leading bytes → get_or bytes 0 0 ≡ 48 → ⊥
-
-pub fronted : (bytes : List ℕ) (n : ℕ) (rest : List ℕ) → LeadsPlain bytes n rest → Fronted bytes
-fronted bytes n rest led =
-    let small : n < 10 ^ 10 = led.small in
-    let fits : n < 2 ^ 64 = omega arith in
-    let count : leading bytes ≡ length (decimal n) = ap leading led.spelled ∙ leading_joined (decimal n) rest (digits_decimal own n fits) led.whole in
-    let some = decimal_nonempty n fits in
-    let first : get_or bytes 0 0 ≡ get_or (decimal n) 0 0 = ap (λ bs. get_or bs 0 0) led.spelled ∙ get_or_append_left (decimal n) rest 0 0 some in
-    record {
-      some = omega arith;
-      few = omega (arith, length-decimal-le 10 n (omega arith) small fits);
-      no_nought = λ more is.
-          elim (cases_order n 0) [
-            | inl none ↦ omega (arith, ap (λ k. length (decimal k)) none, ap length (decimal_digit 0 (omega arith)))
-            | inr other ↦ elim other [ inl less ↦ omega arith | inr above ↦ omega (arith, first_decimal n above fits) ]
-          ];
-    }
-
-alone_at : (count : ℕ) (ds : List ℕ) → length ds ≡ count → (count ≡ 0 → ⊥) → (1 < count → ⊥) → length ds ≡ 1
-alone_at count ds long some one = elim (cases_lt 1 count) [ inl more ↦ absurd (one more) | inr less ↦ omega arith ]
-
--- The number that the digits at the front of bytes come to.
-pub plain_led : (bytes : List ℕ) (count n : ℕ) → count ≡ leading bytes → (count ≡ 0 → ⊥) → count ≤ 10 → (1 < count → get_or bytes 0 0 ≡ 48 → ⊥)
-    → n ≡ read_on 0 (take count bytes) → LeadsPlain bytes n (drop count bytes)
-plain_led bytes count n is some few no_nought comes =
-    let digits : all_ascii_digits (take count bytes) ≡ true = rw is (front_digits bytes) in
-    let whole : digit_first (drop count bytes) ≡ false = rw is (after_digits bytes) in
-    let within : count ≤ length bytes = omega (arith, leading_within bytes) in
-    let long : length (take count bytes) ≡ count = length-take-le count bytes within in
-    let small : n < 10 ^ 10 = rw comes (digits_value_short own (take count bytes) 10 digits (omega arith)) in
-    let first : get_or (take count bytes) 0 0 ≡ get_or bytes 0 0 = get_or-take count bytes 0 0 (omega arith) in
-    let alone : get_or (take count bytes) 0 0 ≡ 48 → length (take count bytes) ≡ 1 = λ at. alone_at count (take count bytes) long some (λ more. no_nought more (sym first ∙ at)) in
-    let e : decimal (read_on 0 (take count bytes)) ≡ take count bytes = decimal-digits_value own (take count bytes) digits (omega arith) alone (omega arith) in
-    record { spelled = sym (take-append-drop count bytes) ∙ ap (λ ds. ds ++ drop count bytes) (sym e ∙ ap decimal (sym comes)); whole = whole; small = small }
-
-pub front_few : (bytes : List ℕ) (count : ℕ) → count ≡ leading bytes → count ≤ 10 → (all_ascii_digits (take count bytes) ≡ true) × (length (take count bytes) ≤ 10)
-front_few bytes count is few = (rw is (front_digits bytes), omega (arith, length-take-le count bytes (omega (arith, leading_within bytes))))
-
--- Digits begin with a digit, and so not with a minus.
-first_of : (ds rest : List ℕ) (b : ℕ) (bs : List ℕ) → all_ascii_digits ds ≡ true → 0 < length ds → (b ∷ bs) ≡ ds ++ rest → 48 ≤ b
-first_of [] rest b bs digits some e = absurd (omega arith)
-first_of (d ∷ ds) rest b bs digits some e =
-    let both = and_parts (is_ascii_digit d) (all_ascii_digits ds) digits in
-    let low : 48 ≤ d = leb-true _ _ (and_parts _ _ both.0).0 in
-    let same : b ≡ d = cc in
-    omega arith
-
--- A minus before the digits.
-pub signed_minus : (bytes : List ℕ) (n count : ℕ) → (n ≡ 0 → ⊥) → LeadsPlain bytes n (drop count bytes) × (count ≤ length bytes)
-    → Leads (45 ∷ bytes) (neg_ℤ (pos n)) (drop (count + 1) (45 ∷ bytes)) × (count + 1 ≤ length (45 ∷ bytes))
-signed_minus bytes zero count some led = absurd (some refl)
-signed_minus bytes (suc n) count some led =
-    rw add-one
-    (record { spelled = ap (λ bs. 45 ∷ bs) led.0.spelled; whole = led.0.whole; small = lt-ltb (suc n) (10 ^ 10) led.0.small }, omega (arith, led.1))
 
 -- Bytes begin with one number at most.
 front_of : (bytes : List ℕ) (n : ℕ) (rest : List ℕ) → LeadsPlain bytes n rest → (decimal n ≡ take (leading bytes) bytes) × (rest ≡ drop (leading bytes) bytes)
@@ -164,6 +87,58 @@ same_plain bytes n rest led n' rest' led' =
     let f = front_of bytes n rest led in
     let f' = front_of bytes n' rest' led' in
     (decimal_injective n n' (omega (arith, led.small)) (omega (arith, led'.small)) (f.0 ∙ sym f'.0), f.1 ∙ sym f'.1)
+
+-- Digits that are the text of a number.
+pub record Numeral (ds : List ℕ) : Type 0 where
+  pub some : 0 < length ds
+  pub few : length ds ≤ 10
+  pub no_nought : 1 < length ds → get_or ds 0 0 ≡ 48 → ⊥
+
+numeral : (n : ℕ) → n < 10 ^ 10 → Numeral (decimal n)
+numeral n small =
+    let fits : n < 2 ^ 64 = omega arith in
+    record {
+      some = decimal_nonempty n fits;
+      few = length-decimal-le 10 n (omega arith) small fits;
+      no_nought = λ more is.
+          elim (cases_order n 0) [
+            | inl none ↦ omega (arith, ap (λ k. length (decimal k)) none, ap length (decimal_digit 0 (omega arith)))
+            | inr other ↦ elim other [ inl less ↦ omega arith | inr above ↦ omega (arith, first_decimal n above fits) ]
+          ];
+    }
+
+alone : (ds : List ℕ) → Numeral ds → get_or ds 0 0 ≡ 48 → length ds ≡ 1
+alone ds is first = elim (cases_lt 1 (length ds)) [ inl more ↦ absurd (is.no_nought more first) | inr less ↦ omega (arith, is.some) ]
+
+-- The digits that bytes begin with, and what comes after them: the number is theirs.
+module _ (bytes ds : List ℕ) (front : ds ≡ take (leading bytes) bytes) where
+  pub front_digits_are : all_ascii_digits ds ≡ true
+  front_digits_are = rw front (front_digits bytes)
+
+  pub front_read : (rest : List ℕ) (n : ℕ) → rest ≡ drop (leading bytes) bytes → Numeral ds → n ≡ read_on 0 ds → LeadsPlain bytes n rest
+  front_read rest n behind is comes =
+      let small : n < 10 ^ 10 = rw comes (digits_value_short own ds 10 front_digits_are is.few) in
+      let e : decimal (read_on 0 ds) ≡ ds = decimal-digits_value own ds front_digits_are is.some (alone ds is) (omega (arith, is.few)) in
+      let spelled : decimal n ≡ take (leading bytes) bytes = ap decimal comes ∙ (e ∙ front) in
+      record { spelled = sym (take-append-drop (leading bytes) bytes) ∙ (ap (λ s. s ++ drop (leading bytes) bytes) (sym spelled) ∙ ap (λ s. decimal n ++ s) (sym behind)); whole = rw behind (after_digits bytes); small = small }
+
+  pub front_none : (Numeral ds → ⊥) → (n : ℕ) (rest : List ℕ) → LeadsPlain bytes n rest → ⊥
+  front_none none n rest led = none (subst Numeral ((front_of bytes n rest led).0 ∙ sym front) (numeral n led.small))
+
+-- Digits begin with a digit, and so not with a minus.
+first_of : (ds rest : List ℕ) (b : ℕ) (bs : List ℕ) → all_ascii_digits ds ≡ true → 0 < length ds → (b ∷ bs) ≡ ds ++ rest → 48 ≤ b
+first_of [] rest b bs digits some e = absurd (omega arith)
+first_of (d ∷ ds) rest b bs digits some e =
+    let both = and_parts (is_ascii_digit d) (all_ascii_digits ds) digits in
+    let low : 48 ≤ d = leb-true _ _ (and_parts _ _ both.0).0 in
+    let same : b ≡ d = cc in
+    omega arith
+
+-- A minus before the digits.
+pub signed_minus : (bytes : List ℕ) (n : ℕ) (rest : List ℕ) → (n ≡ 0 → ⊥) → LeadsPlain bytes n rest → Leads (45 ∷ bytes) (neg_ℤ (pos n)) rest
+signed_minus bytes zero rest some led = absurd (some refl)
+signed_minus bytes (suc n) rest some led =
+    record { spelled = ap (λ bs. 45 ∷ bs) led.spelled; whole = led.whole; small = lt-ltb (suc n) (10 ^ 10) led.small }
 
 tail_of : (bytes : List ℕ) (n : ℕ) (rest : List ℕ) → Leads (45 ∷ bytes) (negsuc n) rest → LeadsPlain bytes (suc n) rest
 tail_of bytes n rest led = record { spelled = ap (drop 1) led.spelled; whole = led.whole; small = ltb-true (suc n) (10 ^ 10) led.small }

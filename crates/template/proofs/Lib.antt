@@ -1,5 +1,3 @@
-pub mod Buffers
 pub mod DigitsRead
-pub mod DigitsWritten
 pub mod FilledRead
-pub mod Filling
+pub mod Texts

@@ -1,7 +1,9 @@
 -- Templates: text with a hole, #, for each number. Assumes nothing.
-use Rattle.std.specs.Prelude.{◌≡◌, ℕ, suc, ◌≤◌, Bool, true, false, cond, not, ◌&&◌, ◌||◌, List, [], ◌∷◌, ◌++◌, length, take, drop, ℤ, pos, Some, None, Ok, Err, Option, Result, ◌==◌, ◌≢◌, nat_le, slice_index_or}
+use Rattle.std.specs.Prelude.{◌≡◌, ℕ, suc, ◌<◌, ◌≤◌, Bool, true, cond, not, ◌&&◌, ◌||◌, List, [], ◌∷◌, ◌++◌, length, take, drop, ℤ, pos, Some, None, Ok, Err, Option, Result, ◌==◌, ◌≢◌, nat_le, slice_index_or}
+use Rattle.arrayvec.specs.ArrayVec.{ArrayVec}
 use Rattle.std.specs.Char.{is_ascii_digit}
 use Rattle.std.specs.Fmt.{signed_decimal}
+use Rattle.std.specs.List.{list_all}
 use Rattle.template.specs.Numbers.{short}
 use Rattle.template.specs.declared.fault.WriteFault.{WriteFault}
 use Rattle.template.specs.declared.fault.WriteFault.TheVariants.{TooLong, NoRoom}
@@ -40,8 +42,7 @@ apart (b ∷ bs) = cond (is_hole b) (ends_number bs && apart bs) (apart bs)
 
 -- Numbers of at most ten digits each.
 abbrev pub all_short : List ℤ → Bool
-all_short [] = true
-all_short (z ∷ zs) = short z && all_short zs
+all_short numbers = list_all short numbers
 
 -- Bytes are the template's text for these numbers, which are short.
 pub record Fills (template bytes : List ℕ) (numbers : List ℤ) : Type 0 where
@@ -52,15 +53,25 @@ pub record Fills (template bytes : List ℕ) (numbers : List ℤ) : Type 0 where
 abbrev pub Unfilled : List ℕ → List ℕ → Type 0
 Unfilled template bytes = (others : List ℤ) → all_short others ≡ true → bytes ≢ fill template others
 
--- The answer to whether bytes are the template's text for some short numbers: yes, for these; or no, where it can be told where each
--- number ends and there is room for all of them.
-abbrev pub Tells : List ℕ → List ℕ → ℕ → List ℤ → Bool → Type 0
-Tells template bytes room numbers true = Fills template bytes numbers
-Tells template bytes room numbers false = apart template ≡ true → holes template ≤ room → Unfilled template bytes
+-- The answer to which short numbers fill a template so that it is these bytes: these, in the order of the holes; or none, where it can
+-- be told where each number ends and there is room for all of them.
+abbrev pub Tells : List ℕ → List ℕ → ℕ → Option (ArrayVec ℤ) → Type 0
+Tells template bytes room (Some numbers) = Fills template bytes numbers.items × (length numbers.items ≡ holes template)
+Tells template bytes room None = apart template ≡ true → holes template ≤ room → Unfilled template bytes
 
 -- The most bytes that a text has.
 abbrev pub longest : ℕ
 longest = 200
+
+-- More bytes are put behind a text; or there would then be more than 200.
+abbrev pub PutBehind : List ℕ → List ℕ → List ℕ → Result (Unit {0}) WriteFault → Type 0
+PutBehind more before after (Ok done) = after ≡ before ++ more
+PutBehind more before after (Err fault) = (longest < length (before ++ more)) × (fault ≡ TooLong)
+
+-- A text is made; or it has more than 200 bytes.
+abbrev pub Made : List ℕ → Result (ArrayVec ℕ) WriteFault → Type 0
+Made text (Ok made) = made.items ≡ text
+Made text (Err fault) = (longest < length text) × (fault ≡ TooLong)
 
 -- Each number has at most ten digits, and the text at most 200 bytes.
 abbrev pub fits_a_line : List ℤ → List ℕ → Bool

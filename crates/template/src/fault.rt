@@ -2,12 +2,13 @@
 ghost use Rattle.std.specs.Prelude.{◌≡◌};
 ghost use Rattle.template.specs.Templates.{write_fault_number};
 
+// Each stands for the number by which it is reported.
 #[derive(Clone, Copy, PartialEq, Eq, Debug)]
 pub enum WriteFault {
     // A number has more than ten digits, or the text more than 200 bytes.
-    TooLong,
+    TooLong = 27,
     // The buffer is shorter than the text.
-    NoRoom,
+    NoRoom = 28,
 }
 
 impl WriteFault {
@@ -15,9 +16,6 @@ impl WriteFault {
     pub fn number(self) -> u32
         ensures { result ≡ write_fault_number self }
     {
-        match self {
-            WriteFault::TooLong => 27,
-            WriteFault::NoRoom => 28,
-        }
+        self as u32
     }
 }

@@ -5,8 +5,10 @@ mod digits;
 mod fault;
 mod number;
 mod reading;
+mod text;
 mod writing;
 
 pub use fault::WriteFault;
 pub use reading::read_filled;
+pub use text::LONGEST;
 pub use writing::write_filled;

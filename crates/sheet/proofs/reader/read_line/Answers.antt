@@ -15,10 +15,10 @@ returns-in-Some c =
     let line = read_as c.args.bytes.now (of_reading c.in-Some.reading) c.if-bytes-gt-LONGEST.false c.in-Some.ensures in
     record { answered = line; every = only c.args.bytes.now (of_reading c.in-Some.reading) line }
 
-pub returns-in-Some-read_block : goal.returns-in-Some-read_block
-returns-in-Some-read_block c =
-    let line = read_as c.args.bytes.now (of_block c.in-Some-read_block.terms) c.if-bytes-gt-LONGEST.false c.in-Some-read_block.ensures in
-    record { answered = line; every = only c.args.bytes.now (of_block c.in-Some-read_block.terms) line }
+pub returns-in-Some-read_kind : goal.returns-in-Some-read_kind
+returns-in-Some-read_kind c =
+    let line = read_as c.args.bytes.now (of_block c.in-Some-read_kind.terms) c.if-bytes-gt-LONGEST.false c.in-Some-read_kind.ensures in
+    record { answered = line; every = only c.args.bytes.now (of_block c.in-Some-read_kind.terms) line }
 
 pub returns-in-Some-read_curve : goal.returns-in-Some-read_curve
 returns-in-Some-read_curve c =
@@ -27,5 +27,5 @@ returns-in-Some-read_curve c =
 
 pub returns-in-None : goal.returns-in-None
 returns-in-None c =
-    let none = no_line c.args.bytes.now c.in_default.ensures c.in_default-read_block.ensures c.in-None.ensures in
+    let none = no_line c.args.bytes.now c.in_default.ensures c.in_default-read_kind.ensures c.in-None.ensures in
     record { answered = (c.if-bytes-gt-LONGEST.false, c.in_ok-check_form.ensures, none); every = λ said line. absurd (none said line) }

@@ -1,32 +1,24 @@
-use Rattle.std.proofs.Common.{◌+◌, ◌%◌, set, sym, ap, ◌∙◌, arith}
-use Rattle.template.proofs.DigitsWritten.{length_one, length_more, length_few, put_one, put_more}
+use Rattle.std.proofs.Common.{◌≡◌, ℕ, ◌/◌, ◌%◌, ◌+◌, List, [], ◌∷◌, decimal, Err, sym, ap, ◌∙◌, subst, arith}
+use Rattle.std.proofs.lemmas.Fmt.{decimal_digit, decimal_step}
+use Rattle.std.proofs.lemmas.Result.{err_from_is_err_and}
+use Rattle.template.specs.Templates.{PutBehind}
+use Rattle.template.proofs.Texts.{put_stopped, put_then}
 use Rattle.template.proofs.digits.+put_plain.Goals as goal
+use Rattle.template.proofs.digits.+put_plain.Goals.{then-n-ge10+in_ok-put_plain, else-n-ge10}
 
-pub bounds-out-0 : goal.bounds-out-0
-bounds-out-0 t c = omega (arith, length_one c.args.n c.if-n-lt10.true)
-
-pub returns-then-n-lt10 : goal.returns-then-n-lt10
-returns-then-n-lt10 t c =
-    let one = length_one c.args.n c.if-n-lt10.true in
-    record { count = sym one; written = put_one c.args.n c.args.out.now c.if-n-lt10.true (omega arith) }
-
-pub put_plain-at-requires : goal.put_plain-at-requires
-put_plain-at-requires t c = let more = length_more c.args.n c.if-n-lt10.false c.ranges.n.fits in omega arith
-
-pub bounds-out-at : goal.bounds-out-at
-bounds-out-at t c = let more = length_more c.args.n c.if-n-lt10.false c.ranges.n.fits in omega arith
-
-pub overflow_add-result : goal.overflow_add-result
-overflow_add-result t c =
-    let more = length_more c.args.n c.if-n-lt10.false c.ranges.n.fits in
-    let few = length_few c.args.n c.ranges.n.fits in
-    omega arith
+pub returns-in_err-put_plain : goal.returns-in_err-put_plain
+returns-in_err-put_plain t c =
+    let p = err_from_is_err_and c.from_residual.result c.from_residual.ensures.1 in
+    let is = p.1 ∙ ap Err p.2 in
+    rw is (rw (decimal_step c.args.n c.if-n-ge10.true c.ranges.n.fits) (put_stopped (decimal (c.args.n / 10)) ((48 + c.args.n % 10) ∷ []) c.args.text.now.items c.in_err-put_plain.ensures.0, c.in_err-put_plain.ensures.1))
 
 pub returns : goal.returns
 returns t c =
-    let more = length_more c.args.n c.if-n-lt10.false c.ranges.n.fits in
-    record {
-      count = omega arith;
-      written = ap (λ b. set b c.put_plain-at.result (48 + c.args.n % 10)) c.put_plain-at.ensures.written
-          ∙ put_more c.args.n c.args.out.now c.put_plain-at.result c.if-n-lt10.false c.ranges.n.fits c.requires c.put_plain-at.ensures.count;
-    }
+    elim c.if-n-ge10.branch [
+      | then-n-ge10+in_ok-put_plain w ↦
+          subst (λ (ds : List ℕ). PutBehind ds c.args.text.now.items c.put_byte.new.text.items c.put_byte.result) (sym (decimal_step c.args.n w.if-n-ge10.true c.ranges.n.fits))
+          (put_then (decimal (c.args.n / 10)) ((48 + c.args.n % 10) ∷ []) c.args.text.now.items _ _ c.put_byte.result (ap (λ x. x.items) w.text-is ∙ w.in_ok-put_plain.ensures) c.put_byte.ensures)
+      | else-n-ge10 w ↦
+          let one : decimal c.args.n ≡ (48 + c.args.n % 10) ∷ [] = decimal_digit c.args.n w.if-n-ge10.false ∙ ap (λ d. (48 + d) ∷ []) (omega arith) in
+          rw (one, ← w.text-is) c.put_byte.ensures
+    ]

@@ -1,9 +1,12 @@
-use Rattle.std.proofs.Common.{refl, w64}
+use Rattle.std.proofs.Common.{◌≡◌, ◌∙◌, w64}
 use Rattle.std.proofs.lemmas.Int.{to_z-of_z}
-use Rattle.sheet.proofs.ListedNumbers.{line_made}
+use Rattle.std.proofs.lemmas.List.{take_all}
+use Rattle.basics.specs.Few.{items}
 use Rattle.sheet.proofs.curve_line.CurveLine.new.Goals as goal
 
 pub returns : goal.returns
 returns c =
-    line_made _ _ c.args.ramp c.args.lag c.copy_from_slice.new.self _ c.args.points.now _ (to_z-of_z w64 c.args.ramp c.ranges.ramp) (to_z-of_z w64 c.args.lag c.ranges.lag)
-    c.copy_from_slice.ensures.after refl
+    let held : items c.first.result ≡ c.args.points.now = c.first.ensures ∙ take_all 23 c.args.points.now c.if-points-gt-MOST_POINTS.false in
+    let ramp = to_z-of_z w64 c.args.ramp c.ranges.ramp in
+    let lag = to_z-of_z w64 c.args.lag c.ranges.lag in
+    cc

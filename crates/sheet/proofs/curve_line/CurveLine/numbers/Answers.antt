@@ -1,12 +1,13 @@
-use Rattle.std.proofs.Common.{length, sym, ap, ◌∙◌, w64, SFits, rules}
+use Rattle.std.proofs.Common.{get_or, arith, ◌∙◌, w64, SFits, rules}
 use Rattle.std.proofs.lemmas.Int.{to_z-of_z}
-use Rattle.sheet.specs.Lines.{points_of}
-use Rattle.sheet.proofs.ListedNumbers.{line_put}
+use Rattle.sheet.proofs.ListedNumbers.{no_point, point_put}
 use Rattle.sheet.proofs.curve_line.CurveLine.numbers.Goals as goal
 
-pub returns : goal.returns
-returns c =
-    let f : SFits w64 c.args.self.now.ramp = search rules in
-    let g : SFits w64 c.args.self.now.lag = search rules in
-    line_put _ _ c.args.self.now.ramp c.args.self.now.lag _ (points_of c.args.self.now) c.points.result.now c.put_points.new.numbers (to_z-of_z w64 _ f) (to_z-of_z w64 _ g)
-    c.points.ensures.said (sym (ap length c.points.ensures.said) ∙ c.points.ensures.counted) c.put_points.ensures
+pub loop-point-preserved : goal.loop-point-preserved
+loop-point-preserved c =
+    let f : SFits w64 (get_or c.points-point-items.result.now c.loop-point.point-index no_point).deviation = search rules in
+    let g : SFits w64 (get_or c.points-point-items.result.now c.loop-point.point-index no_point).parts = search rules in (
+      rw (c.push-in-loop-point-2.ensures.items, c.push-in-loop-point.ensures.items)
+          (point_put c.points-point-items.result.now c.loop-point.numbers.items c.loop-point.point-index _ _ c.loop-point-test.true (to_z-of_z w64 _ f) (to_z-of_z w64 _ g) ∙ c.loop-point.invariant.0),
+      omega arith,
+    )
