@@ -20,6 +20,7 @@ const BATCH: [Row; 8] = [
     Row(1, 50_000, 0, 0, 1),
 ];
 
+// The number of a verdict, 0 where the reading is accepted.
 const VERDICTS: [u32; 8] = [0, 13, 14, 15, 16, 17, 18, 0];
 
 fn verdicts(report: &mut Report<impl Print>, batch: &[Entry]) -> io::Result<()> {

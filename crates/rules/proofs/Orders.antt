@@ -5,11 +5,11 @@ use Rattle.std.specs.declared.cmp.Ordering.TheVariants.{Less, Equal, Greater}
 use Rattle.std.specs.Ordering.{is_lt, int_cmp, nat_cmp}
 use Rattle.rules.specs.Least.{least}
 
--- a comparison that answers less where the first test holds does what the test does
-tested : (first second : Bool) (more less : Ordering) → is_lt more ≡ false → is_lt less ≡ false → is_lt (cond first Less (cond second more less)) ≡ first
-tested true second more less m l = refl
-tested false true more less m l = m
-tested false false more less m l = l
+-- a comparison that answers `Less` exactly where the first test holds does what the test does
+tested : (first second : Bool) (x y : Ordering) → is_lt x ≡ false → is_lt y ≡ false → is_lt (cond first Less (cond second x y)) ≡ first
+tested true second x y at_x at_y = refl
+tested false true x y at_x at_y = at_x
+tested false false x y at_x at_y = at_y
 
 signed : (x y : ℤ) → is_lt (int_cmp x y) ≡ int_lt x y
 signed x y = tested (int_lt x y) (int_lt y x) Greater Equal refl refl
