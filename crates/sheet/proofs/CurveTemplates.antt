@@ -1,5 +1,5 @@
 -- The template of a curve line of fewer points, from that of 23.
-use Rattle.std.proofs.Common.{◌≡◌, ℕ, zero, suc, ◌+◌, ◌*◌, ◌≤◌, [], ◌∷◌, ◌++◌, length, take, set, codes, refl, ap, ◌∙◌, arith}
+use Rattle.std.proofs.Common.{◌≡◌, ℕ, zero, suc, ◌+◌, ◌-◌, ◌*◌, ◌≤◌, [], ◌∷◌, ◌++◌, length, take, set, codes, refl, ap, ◌∙◌, arith}
 use Rattle.std.proofs.lemmas.List.{take_all, take_more_set}
 use Rattle.sheet.specs.Lines.{curve_template, points_template}
 
@@ -23,5 +23,9 @@ curve_front n few =
     ∙ (take_more_set (curve_template 23) (8 * n + 10) 41 (omega arith)
     ∙ (ap (λ k. take k (curve_template 23) ++ (41 ∷ [])) ten ∙ ap (λ rest. codes "(curve # #" ++ rest) (points_front n 23 few)))
 
-pub curve_kept : (n : ℕ) → n ≤ 23 → take 195 (take (8 * n + 11) (set (curve_template 23) (8 * n + 10) 41)) ≡ curve_template n
-curve_kept n few = ap (take 195) (curve_front n few) ∙ take_all 195 (curve_template n) (omega (arith, length_points n))
+pub curve_kept : (n long : ℕ) → n ≤ 23 → long ≡ 8 * n + 11 → take 195 (take long (set (curve_template 23) (long - 1) 41)) ≡ curve_template n
+curve_kept n long few is =
+    let last : long - 1 ≡ 8 * n + 10 = omega arith in
+    ap (λ k. take 195 (take k (set (curve_template 23) (long - 1) 41))) is
+    ∙ (ap (λ k. take 195 (take (8 * n + 11) (set (curve_template 23) k 41))) last
+    ∙ (ap (take 195) (curve_front n few) ∙ take_all 195 (curve_template n) (omega (arith, length_points n))))
