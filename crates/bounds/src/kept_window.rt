@@ -7,7 +7,7 @@ ghost use Rattle.rules.specs.Least.{least};
 use rules::{Order, least};
 
 // The latest frequencies in mHz, the newest last, and how many of them are in the window. (An array and a count: no heap is a
-// rule of the project, and a window is copied, which a Vec or an ArrayVec is not.)
+// rule of the project, and a window is copied, which an `ArrayVec` is not. In a `Few` the newest would have no fixed place.)
 #[derive(Clone, Copy)]
 pub struct Window {
     latest: [i64; 11],

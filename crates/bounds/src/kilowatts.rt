@@ -60,9 +60,9 @@ impl Kilowatts {
         ensures bound { result ≤ 4000000000000 }
     {
         if self.times_full < lower.times_full {
-            (lower.times_full - self.times_full).unsigned_abs()
+            lower.times_full.abs_diff(self.times_full)
         } else if self.times_full > upper.times_full {
-            (self.times_full - upper.times_full).unsigned_abs()
+            self.times_full.abs_diff(upper.times_full)
         } else {
             0
         }

@@ -33,8 +33,8 @@ impl Bounds {
         }
     }
 
-    // The raw bounds: in grace the widest, else the curve at the window's highest and at its lowest frequency. (A track takes
-    // in a reading on any curve, whichever contracts are held: a struct made of both for this call alone is no plainer.)
+    // The raw bounds: in grace the widest, else the curve at the window's highest and at its lowest frequency. (Curve
+    // and contracts stay two: a track takes in readings on any curve, and to ask for a `Sided`, which has both, would ask more.)
     pub fn raw<K: Curve>(curve: &K, held: Sides, in_grace: bool, window: &Window) -> Bounds
         ensures { parts_of result ≡ raw held (K.Curve.shape curve.now) in_grace (told window.now) }
     {

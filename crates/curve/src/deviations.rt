@@ -6,7 +6,7 @@ ghost use Rattle.curve.specs.Deviations.{deviation, signed};
 pub(crate) fn deviation(frequency: i64) -> i64
     ensures { result ≡ deviation frequency }
 {
-    50_000 - frequency.min(60_000).max(40_000)
+    50_000 - frequency.clamp(40_000, 60_000)
 }
 
 // Parts with the sign of a deviation: below nominal they are positive. (Two makes of curve mirror their parts so, in two lines:

@@ -27,7 +27,7 @@ pub enum PointsFault {
 }
 
 impl PointsFault {
-    // The number by which the fault is reported.
+    // The number by which the fault is reported. (Each type of fault has this line: a trait would ask it of each again.)
     pub fn number(self) -> u32
         ensures { result ≡ fault_number self }
     {

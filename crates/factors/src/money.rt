@@ -61,10 +61,7 @@ fn earned(each: i64, periods: &[PeriodFigures; PERIODS]) -> i64
 fn lowest(periods: &[PeriodFigures; PERIODS]) -> u64
     ensures { result ≡ lowest periods.now }
 {
-    match rules::least::<PeriodFigures, ByFactor>(periods) {
-        None => WHOLE,
-        Some(figures) => figures.factor,
-    }
+    rules::least::<PeriodFigures, ByFactor>(periods).map_or(WHOLE, |figures| figures.factor)
 }
 
 // What a contract comes to, from the figures of its periods.

@@ -27,7 +27,8 @@ impl Tally {
         }
     }
 
-    // Lends the record of the reading's period; a period past the last has none.
+    // Lends the record of the reading's period; a period past the last has none. (`get_mut` was tried: of the records the checker
+    // then knows only how many there are.)
     fn note(&mut self, j: &Judgement, rolling: Option<u64>)
         ensures same { self.new.rolling ≡ self.old.rolling }
         ensures records { self.new.records ≡ with_reading self.old.records j.now rolling }

@@ -23,7 +23,7 @@ pub struct Misfit {
 }
 
 impl Kind {
-    // The number by which the misfit is reported.
+    // The number by which the misfit is reported. (Each type of fault has this line: a trait would ask it of each again.)
     pub fn number(self) -> u32
         ensures { result ≡ kind_number self }
     {

@@ -34,6 +34,7 @@ pub enum SampleFault {
 }
 
 impl SampleFault {
+    // The number by which the refusal is reported. (Each type of fault has this line: a trait would ask it of each again.)
     pub fn number(self) -> u32
         ensures { result ≡ sample_number self }
     {
@@ -70,16 +71,13 @@ impl Reading {
     fn after_last(&self, last: &Option<Reading>) -> bool
         ensures { result ≡ after_last last.now self.now }
     {
-        match last {
-            None => true,
-            Some(last) => last.tick < self.tick,
-        }
+        last.is_none_or(|last| last.tick < self.tick)
     }
 
     fn in_block(&self, terms: &Terms) -> bool
         ensures { result ≡ in_block terms.now self.now }
     {
-        (self.tick >= 0) & (self.tick < terms.block_ticks())
+        (0..terms.block_ticks()).contains(&self.tick)
     }
 
     // Nothing if the reading passes every check, else the first refusal in the order of their numbers; `last` is the last

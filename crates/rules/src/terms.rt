@@ -14,7 +14,8 @@ pub enum Contract {
 }
 
 impl Contract {
-    // Of what is said of low and of high, what is said of this contract.
+    // Of what is said of low and of high, what is said of this contract. (Low and high stay two fields where both are kept: a
+    // struct for the pair would have the same two, and its users one name more to go through.)
     pub fn pick<T: Drop>(self, low: T, high: T) -> T
         ensures { result ≡ picked self low high }
     {

@@ -42,6 +42,7 @@ pub enum TermsFault {
 }
 
 impl TermsFault {
+    // The number by which the refusal is reported. (Each type of fault has this line: a trait would ask it of each again.)
     pub fn number(self) -> u32
         ensures { result ≡ terms_number self }
     {

@@ -16,6 +16,7 @@ pub enum PeriodFault {
 }
 
 impl PeriodFault {
+    // The number by which the fault is reported. (Each type of fault has this line: a trait would ask it of each again.)
     pub fn number(self) -> u32
         ensures { result ≡ period_number self }
     {

@@ -6,7 +6,7 @@ ghost use Rattle.rules.specs.TermsCheck.{refused_terms};
 use crate::terms::{Held, Terms};
 use crate::terms_input::{Offer, TermsFault, TermsInput};
 
-// What is held of an offer whose quantity is not below 0.
+// What is held of an offer whose quantity is not below 0. (Not `From`: of an offer that was not checked it would mean nothing.)
 fn held(offer: Offer) -> Held
     ensures quantity { result.quantity ≡ unsigned_abs offer.quantity }
     ensures price { result.price ≡ offer.price }
@@ -36,7 +36,7 @@ impl TryFrom<TermsInput> for Terms {
     }
 }
 
-// The same of terms that are lent.
+// The same of terms that are lent: for its callers `Terms::try_from(*input)` would be no plainer.
 pub fn check_terms(input: &TermsInput) -> Result<Terms, TermsFault>
     ensures { elim result [ Ok t ↦ (refused_terms input.now ≡ None) × (handed_in t ≡ input.now) | Err e ↦ refused_terms input.now ≡ Some e ] }
 {
