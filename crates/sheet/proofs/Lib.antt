@@ -2,6 +2,5 @@ pub mod CurveTemplates
 pub mod FormsOfLines
 pub mod KindsRead
 pub mod LinesRead
-pub mod LinesWritten
 pub mod ListedNumbers
 pub mod Openings

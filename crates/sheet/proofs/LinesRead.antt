@@ -1,5 +1,5 @@
 -- What the reader answers is right, and it reads every line.
-use Rattle.std.proofs.Common.{◌≡◌, ℕ, ◌+◌, ◌≤◌, true, List, [], ◌∷◌, length, get_or, take, drop, ℤ, pos, Some, None, Err, Option, Result, sym, refl, ap, ◌∙◌, subst, inl, inr, arith}
+use Rattle.std.proofs.Common.{◌≡◌, ℕ, ◌+◌, ◌≤◌, true, List, [], ◌∷◌, length, get_or, take, drop, ℤ, pos, Some, Err, Result, sym, refl, ap, ◌∙◌, subst, inl, inr, arith}
 use Rattle.std.proofs.lemmas.List.{take-append-drop}
 use Rattle.curve.specs.declared.loading.Point.{Point}
 use Rattle.rules.specs.declared.reading.Reading.{Reading}
@@ -12,7 +12,6 @@ use Rattle.form.specs.declared.misfit.Kind.TheVariants.{Alien, Misplaced, TooDee
 use Rattle.template.proofs.FilledRead.{fill_same}
 use Rattle.template.specs.Templates.{all_short, fill}
 use Rattle.sheet.specs.Lines.{block_numbers, block_template, curve_template, IsLine, line_numbers, of_block, of_curve, of_reading, points_numbers, reading_numbers, reading_template, Said, text}
-use Rattle.sheet.specs.Kinds.{CurveRead, KindRead}
 use Rattle.sheet.specs.Reads.{Answered, ReadsEveryLine}
 use Rattle.sheet.specs.declared.faults.ReadFault.{ReadFault}
 use Rattle.sheet.specs.declared.faults.ReadFault.TheVariants.{Unfit}
@@ -96,24 +95,12 @@ same_said bytes (of_reading r) (of_curve ramp lag ps) one other = absurd (omega 
 same_said bytes (of_curve ramp lag ps) (of_block u) one other = absurd (omega (arith, second bytes _ _ one.spelled other.spelled))
 same_said bytes (of_curve ramp lag ps) (of_reading s) one other = absurd (omega (arith, second bytes _ _ one.spelled other.spelled))
 
--- The answers of the reader.
-pub read_as : (bytes : List ℕ) (said : Said) → length bytes ≤ 200 → (bytes ≡ text said) × (all_short (line_numbers said) ≡ true) → IsLine bytes said
-read_as bytes said within so = record { spelled = so.0; short = so.1; within = within }
-
-pub only : (bytes : List ℕ) (said : Said) → IsLine bytes said → (said' : Said) → IsLine bytes said' → Some said ≡ Some said'
-only bytes said line said' line' = ap Some (same_said bytes said said' line line')
+-- The answers of the reader: a line was read, and no other says what these bytes say.
+pub read_once : (bytes : List ℕ) (said : Said) (other : Said) → length bytes ≤ 200 → (bytes ≡ text said) × (all_short (line_numbers said) ≡ true) → IsLine bytes other → Some said ≡ Some other
+read_once bytes said other within so line = ap Some (same_said bytes said other (record { spelled = so.0; short = so.1; within = within }) line)
 
 pub unfit : (bytes : List ℕ) (misfit : Misfit) (r : Result Line ReadFault) → length bytes ≤ 200 → Wrong bytes misfit.byte misfit.kind → r ≡ Err (Unfit misfit)
     → Answered bytes r × ReadsEveryLine bytes r
 unfit bytes misfit r within wrong is =
     subst (λ (v : Result Line ReadFault). Answered bytes v × ReadsEveryLine bytes v) (sym is)
     ((within, wrong), λ said line. absurd (not_wrong bytes misfit.byte misfit.kind (line_form bytes said line) wrong))
-
-pub no_line : (bytes : List ℕ) → KindRead of_reading bytes None → KindRead of_block bytes None → CurveRead bytes None → (said : Said) → IsLine bytes said → ⊥
-no_line bytes no_reading no_block no_curve (of_block t) line = no_block t line
-no_line bytes no_reading no_block no_curve (of_curve ramp lag ps) line = no_curve ramp lag ps line
-no_line bytes no_reading no_block no_curve (of_reading r) line = no_reading r line
-
--- A refusal says nothing, and a line says something.
-pub never_refused : (said : Said) → ◌≡◌ {A = Option Said} None (Some said) → ⊥
-never_refused said e = let z : ◌≡◌ {A = ℕ} 0 1 = cc in omega arith

@@ -5,7 +5,7 @@ use Rattle.std.proofs.lemmas.List.Recursion.{is_count_by}
 use Rattle.std.proofs.Math.Numerals.{one-add}
 use Rattle.std.specs.Bool.{◌==◌}
 use Rattle.std.specs.List.{count_by}
-use Rattle.std.proofs.lemmas.Bool.{and_parts, eq-eqb, leb-true, ltb-true, ne_eqb}
+use Rattle.std.proofs.lemmas.Bool.{and_parts, leb-true, ltb-true, ne_eqb}
 use Rattle.std.specs.Char.{is_ascii_digit}
 use Rattle.std.specs.Fmt.{signed_decimal}
 use Rattle.std.specs.Str.{all_ascii_digits}
@@ -15,9 +15,6 @@ use Rattle.template.specs.Templates.{all_short, fill}
 use Rattle.template.proofs.DigitsRead.{own}
 use Rattle.sheet.specs.Lines.{line_numbers, of_curve, points_numbers, points_template, text}
 use Rattle.sheet.specs.Kinds.{openings}
-
-bracket : (b : ℕ) (bs : List ℕ) → b ≡ 40 → openings (b ∷ bs) ≡ suc (openings bs)
-bracket b bs is = ap (λ test. cond test (suc (openings bs)) (openings bs)) (eq-eqb b 40 is)
 
 no_bracket : (b : ℕ) (bs : List ℕ) → (b ≡ 40 → ⊥) → openings (b ∷ bs) ≡ openings bs
 no_bracket b bs not = ap (λ test. cond test (suc (openings bs)) (openings bs)) (ne_eqb b 40 not)

@@ -6,14 +6,14 @@ use crate::faults::Cause;
 use curve::Points;
 use rules::{Terms, TermsInput};
 
-// The terms of a block line.
+// The terms of a block line. A function and no TryFrom: its Err would be the rules' own fault, and here it is the sheet's cause.
 pub fn terms_of(input: &TermsInput) -> Result<Terms, Cause>
     ensures { CheckedBlock input.now result }
 {
     Ok(Terms::try_from(*input)?)
 }
 
-// The curve of a curve line.
+// The curve of a curve line, in the same way.
 pub fn curve_of(line: &CurveLine) -> Result<Points, Cause>
     ensures { CheckedCurve line.now result }
 {

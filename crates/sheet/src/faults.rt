@@ -20,7 +20,7 @@ pub enum ReadFault {
 }
 
 impl ReadFault {
-    // The number by which the fault is reported.
+    // The number by which the fault is reported. Not at the cases: one that holds a fault has that fault's number.
     pub fn number(self) -> u32
         ensures { result ≡ read_fault_number self }
     {
@@ -63,7 +63,7 @@ pub enum Cause {
 }
 
 impl Cause {
-    // The number by which the fault is reported.
+    // The number by which the fault is reported. Not at the cases: one that holds a fault has that fault's number.
     pub fn number(self) -> u32
         ensures { result ≡ cause_number self }
     {

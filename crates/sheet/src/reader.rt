@@ -29,6 +29,7 @@ fn openings(bytes: &[u8]) -> usize
     bytes.iter().filter(|b| **b == b'(').count()
 }
 
+// Not by read_kind: which template a curve line has goes by its points.
 fn read_curve(bytes: &[u8]) -> Option<CurveLine>
     ensures { CurveRead bytes.now result }
 {

@@ -25,7 +25,7 @@ pub fn write_block(terms: &TermsInput, out: &mut [u8]) -> Result<usize, WriteFau
     write_kind(terms, out)
 }
 
-// Writes a curve line in the same way.
+// Writes a curve line in the same way. Not by write_kind: which template it has goes by its points.
 pub fn write_curve(line: &CurveLine, out: &mut [u8]) -> Result<usize, WriteFault>
     ensures { Written (curve_said line.now) out.old out.new result }
 {

@@ -1,9 +1,9 @@
 -- Digits at the front of bytes: how many there are, and what they come to.
-use Rattle.std.proofs.Common.{◌≡◌, ℕ, zero, suc, ◌+◌, ◌-◌, ◌*◌, ◌^◌, ◌<◌, ◌≤◌, true, false, cond, ◌&&◌, List, [], ◌∷◌, ◌++◌, length, get_or, take, drop, ℤ, pos, negsuc, neg_ℤ, decimal, sym, refl, ap, ◌∙◌, subst, inl, inr, add-one, arith, rules}
+use Rattle.std.proofs.Common.{◌≡◌, ℕ, suc, ◌+◌, ◌-◌, ◌*◌, ◌^◌, ◌<◌, ◌≤◌, true, false, cond, ◌&&◌, List, [], ◌∷◌, ◌++◌, length, get_or, take, drop, ℤ, pos, negsuc, decimal, sym, refl, ap, ◌∙◌, subst, inl, inr, add-one, arith, rules}
 use native.Mathlib.Numerals.{one-add}
 use native.Mathlib.Nat.{pow-le-pow_right}
 use Rattle.std.proofs.lemmas.List.{at_drop_more, at_drop_all, drop_at, take_at, take-append-drop}
-use Rattle.std.proofs.lemmas.Bool.{and_from, and_parts, cases_Bool, cases_lt, cases_order, leb-true, lt-ltb, ltb-true}
+use Rattle.std.proofs.lemmas.Bool.{and_from, and_parts, cases_Bool, cases_lt, cases_order, leb-true, ltb-true}
 use Rattle.std.proofs.lemmas.Fmt.{decimal_digit, decimal_nonempty, decimal-digits_value, digits_decimal, first_decimal, length-decimal-le, decimal_injective}
 use Rattle.std.proofs.lemmas.Str.Parse.{IsNumeralModel, numerals_by_fold, digits_value_short}
 use Rattle.std.specs.Char.{is_ascii_digit}
@@ -133,12 +133,6 @@ first_of (d ∷ ds) rest b bs digits some e =
     let low : 48 ≤ d = leb-true _ _ (and_parts _ _ both.0).0 in
     let same : b ≡ d = cc in
     omega arith
-
--- A minus before the digits.
-pub signed_minus : (bytes : List ℕ) (n : ℕ) (rest : List ℕ) → (n ≡ 0 → ⊥) → LeadsPlain bytes n rest → Leads (45 ∷ bytes) (neg_ℤ (pos n)) rest
-signed_minus bytes zero rest some led = absurd (some refl)
-signed_minus bytes (suc n) rest some led =
-    record { spelled = ap (λ bs. 45 ∷ bs) led.spelled; whole = led.whole; small = lt-ltb (suc n) (10 ^ 10) led.small }
 
 tail_of : (bytes : List ℕ) (n : ℕ) (rest : List ℕ) → Leads (45 ∷ bytes) (negsuc n) rest → LeadsPlain bytes (suc n) rest
 tail_of bytes n rest led = record { spelled = ap (drop 1) led.spelled; whole = led.whole; small = ltb-true (suc n) (10 ^ 10) led.small }

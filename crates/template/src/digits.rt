@@ -6,7 +6,7 @@ ghost use Rattle.template.specs.Templates.{PutBehind};
 use crate::fault::WriteFault;
 use crate::text::{Text, put_byte};
 
-// Puts the digits of a number behind the text.
+// Puts the digits of a number behind the text. By recursion, since the last digit is found first: a loop would need a second buffer.
 fn put_plain(n: u64, text: &mut Text) -> Result<(), WriteFault>
     ensures { PutBehind (decimal n) text.old.items text.new.items result }
 {

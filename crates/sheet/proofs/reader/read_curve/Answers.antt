@@ -6,13 +6,13 @@ use Rattle.sheet.proofs.reader.read_curve.Goals as goal
 
 pub returns-then-points-gt-MOST_POINTS : goal.returns-then-points-gt-MOST_POINTS
 returns-then-points-gt-MOST_POINTS c =
-    too_many c.args.bytes.now c.in_ok-points.points (c.in_ok-points.ensures.1 ∙ ap (λ n. n - 1) c.openings.ensures) c.if-points-gt-MOST_POINTS.true
+    too_many c.args.bytes.now c.in_ok-points.points (c.in_ok-points.ensures.1 ∙ ap (λ n. n - 1) c.openings.ensures) (omega arith)
 
 pub returns-in_err-numbers : goal.returns-in_err-numbers
 returns-in_err-numbers c =
     let is = c.as_slice.ensures ∙ c.curve_template.ensures in
     rw c.from_residual-in_err-numbers.ensures
-    (no_curve c.args.bytes.now c.in_ok-points.points (c.in_ok-points.ensures.1 ∙ ap (λ n. n - 1) c.openings.ensures) (rw is at c.in_err-numbers.ensures) c.if-points-gt-MOST_POINTS.false)
+    (no_curve c.args.bytes.now c.in_ok-points.points (c.in_ok-points.ensures.1 ∙ ap (λ n. n - 1) c.openings.ensures) (rw is at c.in_err-numbers.ensures) (omega arith))
 
 pub of_numbers-requires-clause-even : goal.of_numbers-requires-clause-even
 of_numbers-requires-clause-even c =
