@@ -5,7 +5,7 @@ use Rattle.std.specs.List.{AllZip}
 use Rattle.bounds.specs.Window.{newest}
 use Rattle.curve.specs.Shape.{Shape}
 use Rattle.factors.specs.Promises.{NoSmallerError, NoSmaller}
-use Rattle.rules.specs.Check.{unless}
+use Rattle.basics.specs.Check.{unless}
 use Rattle.rules.specs.Flags.{available}
 use Rattle.rules.specs.ReadingsCheck.{refused_reading, frequency_fits, power_fits, baseline_fits, flag_fits, after_last, in_block}
 use Rattle.rules.specs.Terms.{holds}

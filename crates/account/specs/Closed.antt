@@ -3,7 +3,7 @@ use Rattle.std.specs.Prelude.{◌≡◌, ℕ, false, cond, List, ℤ, pos, None,
 use Rattle.curve.specs.Shape.{Shape}
 use Rattle.factors.specs.Money.{Settled, told}
 use Rattle.factors.specs.declared.settlement.PeriodFigures.{PeriodFigures}
-use Rattle.rules.specs.Check.{within}
+use Rattle.basics.specs.Check.{within}
 use Rattle.rules.specs.declared.reading.Reading.{Reading}
 use Rattle.rules.specs.declared.terms.Contract.{Contract}
 use Rattle.rules.specs.declared.terms.Contract.TheVariants.{Low, High}

@@ -53,7 +53,8 @@ impl State {
         self.track.last()
     }
 
-    // An accepted reading is taken in, and answered.
+    // An accepted reading is taken in, and answered. (Low and high are judged in two statements: a closure for both was tried, and
+    // the proof knows of its answer only what a clause on it would say again of `judgement` and `error`.)
     pub fn take_in<K: Curve>(&mut self, curve: &K, terms: &Terms, reading: Accepted) -> Answer
         ensures { TakenIn terms.now (K.Curve.shape curve.now) reading.reading self.old self.new result }
     {
@@ -80,13 +81,10 @@ impl State {
         }
     }
 
-    // What the readings come to for a contract.
+    // What the readings come to for a contract. (Terms and contract stay two: a struct of them would be made for each call.)
     pub fn settle(&self, terms: &Terms, contract: Contract) -> Settlement
         ensures { (s : Shape) (h : List Reading) → Kept terms.now s h self.now → told result ≡ settled terms.now contract (judgements terms.now s contract h) }
     {
-        match contract {
-            Contract::Low => self.low.settle(terms, contract),
-            Contract::High => self.high.settle(terms, contract),
-        }
+        contract.pick(&self.low, &self.high).settle(terms, contract)
     }
 }

@@ -5,14 +5,15 @@ use std::alloc::AllocError;
 
 pub mod keeping;
 
-// At most N things: the first `count` of the places hold them.
+// At most N things: the first `count` of the places hold them. (An array and a count: no heap is a rule of the project, and the
+// library's `ArrayVec` is not `Copy`, which a curve and a line are.)
 pub struct Few<T, const N: usize> {
     places: [T; N],
     count: usize,
     ghost room: { count ≤ N },
 }
 
-// Not derived: a derive does not reach a struct with a type parameter and a ghost field.
+// By hand: the derive was tried, and is refused for this struct, since it has a ghost field.
 impl<T: Copy, const N: usize> Copy for Few<T, N> {}
 
 impl<T: Copy, const N: usize> Clone for Few<T, N> {

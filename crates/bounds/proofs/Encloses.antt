@@ -1,14 +1,15 @@
 -- The bounds enclose what the curve tells in the window. Assumes nothing.
-use Rattle.std.proofs.Common.{◌≡◌, ℕ, Bool, true, false, cond, List, [], ◌∷◌, map, reverse, get_or, ℤ, pos, ◌+ℤ◌, ◌-ℤ◌, neg_ℤ, ◌≤ℤ◌, sym, ap, ◌∙◌, subst, arith}
+use Rattle.std.proofs.Common.{unwrap_or, rules, ◌≡◌, ℕ, Bool, true, false, cond, List, [], ◌∷◌, map, reverse, get_or, ℤ, pos, ◌+ℤ◌, ◌-ℤ◌, neg_ℤ, ◌≤ℤ◌, sym, ap, ◌∙◌, subst, arith}
 use lib.Signed.{lt_z}
-use Rattle.std.proofs.lemmas.List.MinMax.{IsFirstBest-from_best_of, IsStrictWeakOrder-flip}
+use Rattle.std.proofs.lemmas.List.MinMax.{IsFirstBest-from_best_of}
 use Rattle.std.proofs.lemmas.List.Elements.{Contains-push, at_from_Contains}
 use Rattle.std.proofs.lemmas.List.{reverse-append}
 use Rattle.std.proofs.lemmas.Int.{ints, clamps}
 use Rattle.std.specs.Int.{int_max, int_min}
 use Rattle.std.specs.Cmp.{IsStrictWeakOrder}
 use Rattle.std.specs.List.{best_of, Contains}
-use Rattle.curve.specs.Shape.{Shape, IsCurve}
+use Rattle.curve.specs.Shape.{Shape, IsCurve, nominal}
+use Rattle.rules.specs.Least.{least}
 use Rattle.curve.specs.Sides.{side, sided}
 use Rattle.curve.specs.declared.one_sided.Sides.{Sides}
 use Rattle.curve.specs.declared.one_sided.Sides.TheVariants.{Low, High, Both}
@@ -19,31 +20,23 @@ use Rattle.bounds.specs.Grace.{grace}
 use Rattle.bounds.specs.Laws.{BoundsLaw}
 use Rattle.bounds.specs.Window.{gap, window, frequencies, lowest, highest}
 
-rising : IsStrictWeakOrder lt_z
-rising = record { one_way = λ x y e. grind (arith, ints); chain = λ x y z e f. grind (arith, ints) }
-
-falling : IsStrictWeakOrder (λ x y. lt_z y x)
-falling = IsStrictWeakOrder-flip lt_z rising
-
 no_less : (x y : ℤ) → lt_z x y ≡ false → y ≤ℤ x
 no_less x y e = grind (arith, ints)
 
-pub lowest_is : (fs : List ℤ) (f : ℤ) → Contains fs f → lowest fs ≤ℤ f
-lowest_is [] f m = absurd (omega (arith, m.1))
-lowest_is (x ∷ xs) f m =
+-- no frequency of a window comes before the one that is taken of it
+first_is : (before : ℤ → ℤ → Bool) → IsStrictWeakOrder before → (fs : List ℤ) (f : ℤ) → Contains fs f → before f (unwrap_or (least before fs) nominal) ≡ false
+first_is before o [] f m = absurd (omega (arith, m.1))
+first_is before o (x ∷ xs) f m =
     let at = at_from_Contains (x ∷ xs) f m in
-    let b = IsFirstBest-from_best_of rising x xs in
-    let e : lt_z f (best_of lt_z x xs) ≡ false = ap (λ y. lt_z y (best_of lt_z x xs)) (sym (at.2 x)) ∙ ap (lt_z (get_or (x ∷ xs) at.0 x)) (sym b.2) ∙ b.1.1 at.0 x at.1 in
-    no_less f (best_of lt_z x xs) e
+    let b = IsFirstBest-from_best_of o x xs in
+    let best = best_of before x xs in
+    ap (λ y. before y best) (sym (at.2 x)) ∙ ap (before (get_or (x ∷ xs) at.0 x)) (sym b.2) ∙ b.1.1 at.0 x at.1
+
+pub lowest_is : (fs : List ℤ) (f : ℤ) → Contains fs f → lowest fs ≤ℤ f
+lowest_is fs f m = no_less f (lowest fs) (first_is lt_z (search rules) fs f m)
 
 pub highest_is : (fs : List ℤ) (f : ℤ) → Contains fs f → f ≤ℤ highest fs
-highest_is [] f m = absurd (omega (arith, m.1))
-highest_is (x ∷ xs) f m =
-    let at = at_from_Contains (x ∷ xs) f m in
-    let b = IsFirstBest-from_best_of falling x xs in
-    let top' = best_of (λ x y. lt_z y x) x xs in
-    let e : lt_z top' f ≡ false = ap (λ y. lt_z top' y) (sym (at.2 x)) ∙ ap (λ y. lt_z y (get_or (x ∷ xs) at.0 x)) (sym b.2) ∙ b.1.1 at.0 x at.1 in
-    no_less top' f e
+highest_is fs f m = no_less (highest fs) f (first_is (λ x y. lt_z y x) (search rules) fs f m)
 
 -- what a curve seen from the held contracts tells lies within bottom and top
 abbrev Inside : Sides → Shape → Type 0
@@ -87,11 +80,6 @@ between b t x y n h k = omega (arith, ints, clamps)
 under : (t x y : ℤ) (n : ℕ) → x ≤ℤ t → y ≤ℤ t → int_max x (y -ℤ pos n) ≤ℤ t
 under t x y n h k = omega (arith, ints, clamps)
 
-side_order : (held : Sides) (full : ℕ) → bottom held (pos full) ≤ℤ top held (pos full)
-side_order Low full = omega (arith, ints)
-side_order High full = omega (arith, ints)
-side_order Both full = omega (arith, ints)
-
 module _ (held : Sides) (s : Shape) (in' : Inside held s) where
   raw_inside : (g : Bool) (fs : List ℤ) → (bottom held (pos s.full) ≤ℤ (raw held s g fs).0) × ((raw held s g fs).1 ≤ℤ top held (pos s.full))
   raw_inside true fs = (omega (arith, ints), omega (arith, ints))
@@ -106,16 +94,13 @@ module _ (held : Sides) (s : Shape) (in' : Inside held s) where
         under _ (raw_bounds held s (r ∷ p ∷ h)).1 (bounds held s p h).1 s.ramp now.1 last.1,
       )
 
-≤ℤ-by : (x y z : ℤ) → x ≤ℤ y → y ≤ℤ z → x ≤ℤ z
-≤ℤ-by x y z h k = omega (arith, ints)
-
 pub bounds_law : (held : Sides) (s : Shape) → IsCurve s → BoundsLaw held s
 bounds_law held s c =
     let k = sided_facts.sided_is_curve held s c in
     let e = encloses held (sided held s) k (inside held s c) in
     let w = stays held (sided held s) (inside held s c) in
     record {
-      ordered = λ r h. ≤ℤ-by _ ((sided held s).parts r.frequency) _ (e r h r.frequency (own s.lag r h)).0 (e r h r.frequency (own s.lag r h)).1;
+      ordered = λ r h. omega (arith, ints, e r h r.frequency (own s.lag r h));
       above_bottom = λ r h. (w r h).0;
       below_top = λ r h. (w r h).1;
       lower = λ r h f m. (e r h f m).0;

@@ -1,5 +1,6 @@
 -- One reading more, by history: what is kept goes on to be that of the history. Assumes nothing.
-use Rattle.std.proofs.Common.{◌≡◌, ℕ, zero, suc, ◌-◌, Bool, true, false, cond, not, List, [], ◌∷◌, ◌++◌, map, reverse, length, take, drop, ℤ, Some, None, Option, sym, refl, ap, ◌∙◌, arith}
+use Rattle.std.proofs.Common.{◌≡◌, ℕ, zero, suc, ◌-◌, Bool, true, false, cond, not, List, [], ◌∷◌, ◌++◌, map, reverse, length, take, drop, ℤ, Some, None, Option, sym, refl, ap, ◌∙◌}
+use Rattle.std.proofs.Math.Seq.{take-nil}
 use Rattle.std.proofs.lemmas.List.{take-append-drop, reverse-append, length-reverse, length-drop, drop_at, take-map}
 use Rattle.curve.specs.Shape.{Shape}
 use Rattle.curve.specs.declared.one_sided.Sides.{Sides}
@@ -10,7 +11,8 @@ use Rattle.bounds.specs.Bounds.{raw, raw_bounds, limited, bounds}
 use Rattle.bounds.specs.Grace.{grace}
 use Rattle.bounds.specs.Kept.{told, newest_of, slid, event, after, in_grace, is_gap}
 use Rattle.bounds.specs.Window.{newest, successive, gap, window, frequencies}
-use Rattle.bounds.specs.Track.{reading_of, next_bounds, Stepped, phase_of, BoundsAre, Tracks}
+use Rattle.bounds.specs.Track.{reading_of, bounds_of, next_bounds, Stepped, phase_of, BoundsAre, Tracks}
+use Rattle.bounds.specs.declared.errors.Bounded.{Bounded}
 use Rattle.bounds.specs.declared.track.Track.{Track}
 use Rattle.bounds.specs.declared.phase.Event.TheVariants.{Plain, Gap, ContractBack}
 use Rattle.bounds.proofs.Phases.{grace_is}
@@ -22,12 +24,8 @@ newest_first n xs =
     let many : length (reverse (drop n xs)) ≡ length (reverse xs) - n = length-reverse (drop n xs) ∙ length-drop n xs ∙ ap (λ k. k - n) (sym (length-reverse xs)) in
     ap (drop (length (reverse xs) - n)) cut ∙ drop_at (reverse (drop n xs)) (reverse (take n xs)) (length (reverse xs) - n) many
 
-take_nil : {X : Type 0} (n : ℕ) → take {A = X} n [] ≡ []
-take_nil zero = refl
-take_nil (suc n) = refl
-
 take_cond : {X : Type 0} (n : ℕ) (g : Bool) (xs : List X) → cond g [] (take n xs) ≡ take n (cond g [] xs)
-take_cond n true xs = sym (take_nil n)
+take_cond n true xs = sym (take-nil n)
 take_cond n false xs = refl
 
 window_take : (n : ℕ) (h : List Reading) → window n h ≡ take n (window (suc n) h)
@@ -53,18 +51,18 @@ slid_is lag false r h =
     let shorter : newest_of lag (frequencies lag h) ≡ reverse (map frequency_of (window lag h)) = newest_first lag (map frequency_of (window (suc lag) h)) ∙ ap reverse (take-map frequency_of lag (window (suc lag) h) ∙ ap (map frequency_of) (sym (window_take lag h))) in
     ap (λ xs. xs ++ r.frequency ∷ []) shorter ∙ sym (reverse-append (r.frequency ∷ []) (map frequency_of (window lag h)))
 
-first_bounds : (ramp : ℕ) (last : Option Accepted) (b now : ℤ × ℤ) → reading_of last ≡ None → next_bounds ramp last b now ≡ now
-first_bounds ramp None b now e = refl
-first_bounds ramp (Some x) b now e = let z : ◌≡◌ {A = ℕ} 0 1 = cc in absurd (omega arith)
+first_bounds : (ramp : ℕ) (last : Option Bounded) (now : ℤ × ℤ) → reading_of last ≡ None → next_bounds ramp last now ≡ now
+first_bounds ramp None now e = refl
+first_bounds ramp (Some x) now e = cc
 
-later_bounds : (ramp : ℕ) (last : Option Accepted) (p : Reading) (b now : ℤ × ℤ) → reading_of last ≡ Some p → next_bounds ramp last b now ≡ limited ramp b now
-later_bounds ramp None p b now e = let z : ◌≡◌ {A = ℕ} 0 1 = cc in absurd (omega arith)
-later_bounds ramp (Some x) p b now e = refl
+later_bounds : (ramp : ℕ) (last : Option Bounded) (p : Reading) (now : ℤ × ℤ) → reading_of last ≡ Some p → next_bounds ramp last now ≡ limited ramp (bounds_of last) now
+later_bounds ramp None p now e = cc
+later_bounds ramp (Some x) p now e = refl
 
-bounds_are : (held : Sides) (s : Shape) (r : Reading) (h : List Reading) (last : Option Accepted) (b now new : ℤ × ℤ) → reading_of last ≡ newest h → BoundsAre held s h b → now ≡ raw_bounds held s (r ∷ h) → new ≡ next_bounds s.ramp last b now → BoundsAre held s (r ∷ h) new
-bounds_are held s r [] last b now new l k e n = n ∙ first_bounds s.ramp last b now l ∙ e
-bounds_are held s r (p ∷ h) last b now new l k e n =
-    n ∙ later_bounds s.ramp last p b now l ∙ ap (λ x. limited s.ramp x now) k ∙ ap (limited s.ramp (bounds held s p h)) e
+bounds_are : (held : Sides) (s : Shape) (r : Reading) (h : List Reading) (last : Option Bounded) (now new : ℤ × ℤ) → reading_of last ≡ newest h → BoundsAre held s h (bounds_of last) → now ≡ raw_bounds held s (r ∷ h) → new ≡ next_bounds s.ramp last now → BoundsAre held s (r ∷ h) new
+bounds_are held s r [] last now new l k e n = n ∙ first_bounds s.ramp last now l ∙ e
+bounds_are held s r (p ∷ h) last now new l k e n =
+    n ∙ later_bounds s.ramp last p now l ∙ ap (λ x. limited s.ramp x now) k ∙ ap (limited s.ramp (bounds held s p h)) e
 
 pub follows : (held : Sides) (s : Shape) (r : Accepted) (h : List Reading) (a b : Track) → Tracks held s h a → Stepped held s r a b → Tracks held s (r.reading ∷ h) b
 follows held s r h a b t st =
@@ -74,8 +72,8 @@ follows held s r h a b t st =
     let g : in_grace b.phase ≡ grace held s.lag (r.reading ∷ h) = ap in_grace ph ∙ grace_is held s.lag (r.reading ∷ h) in
     let now : raw held s (in_grace b.phase) (told b.window) ≡ raw_bounds held s (r.reading ∷ h) = ap (λ x. raw held s x (told b.window)) g ∙ ap (raw held s (grace held s.lag (r.reading ∷ h))) w in
     record {
-      last = ap reading_of st.last;
+      last = st.last;
       phase = ph;
       window = w;
-      bounds = bounds_are held s r.reading h a.last a.bounds (raw held s (in_grace b.phase) (told b.window)) b.bounds t.last t.bounds now st.bounds;
+      bounds = bounds_are held s r.reading h a.last (raw held s (in_grace b.phase) (told b.window)) (bounds_of b.last) t.last t.bounds now st.bounds;
     }

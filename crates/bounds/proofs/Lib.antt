@@ -1,6 +1,5 @@
 pub mod Encloses
 pub mod Follows
 pub mod Phases
-pub mod Products
 pub mod Slides
 pub mod SmallErrors

@@ -1,6 +1,7 @@
 -- The kept phase is grace exactly where some reading among the newest lag + 1 opened it. Assumes nothing.
-use Rattle.std.proofs.Common.{◌≡◌, ℕ, zero, suc, ◌-◌, ◌<◌, ◌≤◌, Bool, true, false, cond, not, ◌||◌, ltb, List, [], ◌∷◌, Some, sym, refl, ap, ◌∙◌, inl, inr, lt_of_lt_of_le, lt_irrefl, arith}
-use Rattle.std.proofs.lemmas.Bool.{lt-ltb, le-ltb, cases_lt, or_parts}
+use Rattle.std.proofs.Common.{◌≡◌, ℕ, zero, suc, ◌-◌, ◌≤◌, Bool, true, false, cond, not, ◌||◌, ltb, List, [], ◌∷◌, Some, sym, refl, ap, ◌∙◌, arith}
+use Rattle.std.proofs.lemmas.Bool.{lt-ltb, le-ltb, or_parts}
+use Rattle.std.proofs.lemmas.Bool.Decides.{nat_tests}
 use Rattle.curve.specs.declared.one_sided.Sides.{Sides}
 use Rattle.rules.specs.Flags.{brings_back}
 use Rattle.rules.specs.declared.reading.Reading.{Reading}
@@ -19,12 +20,6 @@ Says held lag h Waiting = h ≡ []
 Says held lag h (Grace left) = (left ≤ lag) × ((n : ℕ) → opened held n h ≡ ltb (lag - left) n)
 Says held lag h Following = opened held (suc lag) h ≡ false
 
-not_lt : (c d : ℕ) → (c < d → ⊥) → d ≤ c
-not_lt c d f = elim (cases_lt c d) [ inl l ↦ absurd (f l) | inr l ↦ l ]
-
-same_ltb : (a b c d : ℕ) → (a < b → c < d) → (c < d → a < b) → ltb a b ≡ ltb c d
-same_ltb a b c d f g = elim (cases_lt a b) [ inl l ↦ lt-ltb a b l ∙ sym (lt-ltb c d (f l)) | inr l ↦ le-ltb a b l ∙ sym (le-ltb c d (not_lt c d (λ k. lt_irrefl a (lt_of_lt_of_le (g k) l)))) ]
-
 -- an event that opens grace, and one that does not
 abbrev starts : Event → Bool
 starts Plain = false
@@ -38,10 +33,6 @@ starts_is held p r h = go (successive p r) (brings_back held p.flag r.flag) wher
   go true false = refl
   go false b = refl
 
-opened_none : (held : Sides) (n : ℕ) → opened held n [] ≡ false
-opened_none held zero = refl
-opened_none held (suc n) = refl
-
 opened_now : (held : Sides) (n : ℕ) (r : Reading) (h : List Reading) → opens held r h ≡ true → opened held n (r ∷ h) ≡ ltb 0 n
 opened_now held zero r h e = refl
 opened_now held (suc n) r h e = ap (λ b. b || opened held n h) e ∙ sym (lt-ltb 0 (suc n) (omega arith))
@@ -54,11 +45,14 @@ fresh held lag r h e =
 opened_later : (held : Sides) (n : ℕ) (r : Reading) (h : List Reading) → opens held r h ≡ false → opened held (suc n) (r ∷ h) ≡ opened held n h
 opened_later held n r h e = ap (λ b. b || opened held n h) e
 
+one_less : (a b n : ℕ) → b ≡ suc a → ltb a n ≡ ltb b (suc n)
+one_less a b n e = grind (arith, nat_tests)
+
 -- one reading less is left of grace
 later : (held : Sides) (lag left n : ℕ) (r : Reading) (h : List Reading) → suc left ≤ lag → opens held r h ≡ false → ((m : ℕ) → opened held m h ≡ ltb (lag - suc left) m) → opened held n (r ∷ h) ≡ ltb (lag - left) n
 later held lag left zero r h l e o = sym (le-ltb (lag - left) 0 (omega arith))
 later held lag left (suc n) r h l e o =
-    opened_later held n r h e ∙ o n ∙ same_ltb (lag - suc left) n (lag - left) (suc n) (λ x. omega arith) (λ x. omega arith)
+    opened_later held n r h e ∙ o n ∙ one_less (lag - suc left) (lag - left) n (omega arith)
 
 -- what did not open among more did not open among fewer
 fewer : (held : Sides) (n : ℕ) (h : List Reading) → opened held (suc n) h ≡ false → opened held n h ≡ false
@@ -77,7 +71,7 @@ module _ (held : Sides) (lag : ℕ) (p r : Reading) (h : List Reading) where
   turn ContractBack e Waiting s = fresh held lag r (p ∷ h) (sym e)
   turn ContractBack e (Grace left) s = fresh held lag r (p ∷ h) (sym e)
   turn ContractBack e Following s = fresh held lag r (p ∷ h) (sym e)
-  turn Plain e Waiting s = let z : ◌≡◌ {A = ℕ} 0 1 = cc in absurd (omega arith)
+  turn Plain e Waiting s = cc
   turn Plain e (Grace zero) s = opened_later held lag r (p ∷ h) (sym e) ∙ s.1 lag ∙ le-ltb (lag - 0) lag (omega arith)
   turn Plain e (Grace (suc left)) s =
       let less : left ≤ lag = omega (arith, s.0) in

@@ -1,6 +1,6 @@
 -- The kept window as one more frequency comes. Assumes nothing.
 use Rattle.std.proofs.Common.{◌≡◌, ℕ, ◌+◌, ◌-◌, ◌≤◌, min, Bool, true, false, List, [], ◌∷◌, ◌++◌, length, take, drop, set, ℤ, sym, refl, ap, ◌∙◌, arith}
-use Rattle.std.proofs.lemmas.List.{set_at, drop-append-le, drop-drop, length-drop, drop_all, take_all}
+use Rattle.std.proofs.lemmas.List.{set_at, drop-append-le, drop-drop, length-drop, drop_all}
 use Rattle.bounds.specs.Kept.{slid}
 
 one : (fs : List ℤ) → 1 ≤ length fs → (x : ℤ) × (take 1 fs ≡ x ∷ [])
@@ -32,7 +32,3 @@ gap_taken fs turn count b lag g f f' l et ef eb eg = rw (et, ef, eb, eg) (turned
 
 pub next_taken : (fs turn : List ℤ) (count b lag : ℕ) (g : Bool) (f f' : ℤ) → length fs ≡ 11 → count ≤ 11 → lag ≤ 10 → turn ≡ drop 1 fs ++ take 1 fs → f' ≡ f → b ≡ min count lag → g ≡ false → drop (11 - (b + 1)) (set turn 10 f') ≡ slid lag g (drop (11 - count) fs) f
 next_taken fs turn count b lag g f f' l few hl et ef eb eg = rw (et, ef, eg) (turned fs b f l (omega arith) ∙ on_the_next fs count b lag f l few eb)
-
--- the part of the array that is read is the window
-pub part : (fs : List ℤ) (k : ℕ) → length fs ≡ 11 → take (11 - k) (drop k fs) ≡ drop k fs
-part fs k l = take_all (11 - k) (drop k fs) (simp length-drop (omega arith))

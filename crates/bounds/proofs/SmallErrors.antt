@@ -1,9 +1,11 @@
 -- A response within 1 kW of the curve errs by at most 1,000 millionths. Assumes nothing.
-use Rattle.std.proofs.Common.{◌≡◌, ℕ, suc, ◌*◌, ◌≤◌, Bool, true, false, cond, ◌&&◌, ltb, List, ℤ, pos, negsuc, ◌-ℤ◌, ◌*ℤ◌, nat_abs, ◌≤ℤ◌, Some, None, sym, refl, ap, ◌∙◌, subst, mul-le-mul_right, mul_assoc, mul_comm, arith}
+use Rattle.std.proofs.Common.{◌≡◌, ℕ, suc, ◌*◌, ◌≤◌, Bool, true, cond, ◌&&◌, ltb, List, ℤ, pos, negsuc, ◌-ℤ◌, ◌*ℤ◌, nat_abs, ◌≤ℤ◌, Some, sym, ap, ◌∙◌, subst, mul-le-mul_right, mul_assoc, mul_comm, arith}
 use native.Mathlib.Nat.{div-le_of_le-mul}
 use lib.Signed.{lt_z}
 use Rattle.std.proofs.lemmas.Int.{ints, clamps}
-use Rattle.std.proofs.lemmas.Bool.{and_parts, le-ltb, ltb-true}
+use Rattle.std.proofs.lemmas.Option.{cond_some}
+use Rattle.std.proofs.lemmas.Bool.Decides.{nat_tests}
+use Rattle.std.proofs.lemmas.Bool.{and_parts, ltb-true}
 use Rattle.curve.specs.Shape.{Shape, IsCurve}
 use Rattle.curve.specs.Sides.{sided}
 use Rattle.curve.specs.declared.one_sided.Sides.{Sides}
@@ -19,15 +21,12 @@ use Rattle.bounds.specs.Errors.{kilowatts, in_kilowatts, response, share, outsid
 use Rattle.bounds.specs.Laws.{Follows}
 use Rattle.bounds.proofs.Encloses.{bounds_law}
 
-never : (n : ℕ) → ltb n 0 ≡ false
-never n = le-ltb n 0 (omega arith)
-
 -- more parts are no fewer kW
 grows : (high low : ℕ) (p q : ℤ) → p ≤ℤ q → (p *ℤ cond (lt_z p (pos 0)) (pos high) (pos low)) ≤ℤ (q *ℤ cond (lt_z q (pos 0)) (pos high) (pos low))
 grows high low (pos p) (pos q) h =
     let m : p * low ≤ q * low = mul-le-mul_right low (omega (arith, ints)) in
-    simp (never p, never q) (omega (arith, ints))
-grows high low (negsuc p) (pos q) h = simp (never q) (omega (arith, ints))
+    grind (arith, ints, nat_tests)
+grows high low (negsuc p) (pos q) h = grind (arith, ints, nat_tests)
 grows high low (negsuc p) (negsuc q) h =
     let m : suc q * high ≤ suc p * high = mul-le-mul_right high (omega (arith, ints)) in omega (arith, ints)
 grows high low (pos p) (negsuc q) h = absurd (omega (arith, ints))
@@ -56,10 +55,6 @@ error_small b t full c d e k h s =
     let held : ltb 0 (quantity t c) ≡ true = (and_parts (holds t c) b k).0 in
     subst (λ x. x ≤ 1000) s (small_scaled full (quantity t c) d (ltb-true 0 (quantity t c) held) h)
 
-judged : (b : Bool) (x e : ℕ) → cond b (Some x) None ≡ Some e → (b ≡ true) × (x ≡ e)
-judged true x e h = (refl, cc)
-judged false x e h = let z : ◌≡◌ {A = ℕ} 0 1 = cc in absurd (omega arith)
-
 pub follows_small : (t : Terms) (s : Shape) → IsCurve s → (c : Contract) (r : Reading) (h : List Reading) (e : ℕ) → Follows t (sided (sides t) s) r h → error_at t (sided (sides t) s) c r h ≡ Some e → e ≤ 1000
 follows_small t s curve c r h e (f, m, n) k =
     let law = bounds_law (sides t) s curve in
@@ -68,5 +63,5 @@ follows_small t s curve c r h e (f, m, n) k =
     let lower = kilowatts_grow t b.0 p (law.lower r h f m) in
     let upper = kilowatts_grow t p b.1 (law.upper r h f m) in
     let d : distance t s.full c (in_kilowatts t b) r ≤ s.full = share_near (sides t) c (kilowatts t b.0) (kilowatts t b.1) (response s.full r) (kilowatts t p) s.full lower upper n in
-    let j = judged (holds t c && available c r.flag) (scaled s.full (quantity t c) (distance t s.full c (in_kilowatts t b) r)) e k in
+    let j = cond_some (holds t c && available c r.flag) (scaled s.full (quantity t c) (distance t s.full c (in_kilowatts t b) r)) e k in
     error_small (available c r.flag) t s.full c (distance t s.full c (in_kilowatts t b) r) e j.0 d j.1

@@ -1,6 +1,7 @@
 -- What is kept from reading to reading, and what it stands for. Assumes nothing.
 use Rattle.std.specs.Prelude.{ℕ, zero, suc, ◌-◌, Bool, true, false, cond, List, [], ◌∷◌, ◌++◌, length, drop, ℤ, Some, None, Option}
 use Rattle.bounds.specs.declared.kept_window.Window.{Window}
+use Rattle.bounds.specs.declared.limits.Bounds.{Bounds}
 use Rattle.curve.specs.declared.one_sided.Sides.{Sides}
 use Rattle.rules.specs.Flags.{brings_back}
 use Rattle.rules.specs.declared.reading.Reading.{Reading}
@@ -13,6 +14,10 @@ use Rattle.bounds.specs.declared.phase.Event.TheVariants.{Plain, Gap, ContractBa
 -- The frequencies of a kept window, the oldest first.
 abbrev pub told : Window → List ℤ
 told w = drop (11 - w.count) w.latest
+
+-- The parts of kept bounds, the lower first.
+abbrev pub parts_of : Bounds → ℤ × ℤ
+parts_of b = (b.lower.n, b.upper.n)
 
 -- Only the newest n of a list, whose newest stands last.
 abbrev pub newest_of : {X : Type 0} → ℕ → List X → List X

@@ -3,7 +3,9 @@
 
 mod errors;
 mod kept_window;
+mod kilowatts;
 mod limits;
+mod parts;
 mod phase;
 mod track;
 

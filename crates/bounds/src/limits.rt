@@ -1,68 +1,73 @@
-// The bounds of a reading, in parts, the lower first.
-ghost use Rattle.std.specs.Prelude.{◌≡◌, pos, negsuc, ◌+ℤ◌, ◌-ℤ◌, ◌≤ℤ◌};
-ghost use Rattle.std.specs.Int.{int_max, int_min};
-ghost use Rattle.bounds.specs.Bounds.{top, bottom, raw};
+// The bounds of a reading.
+ghost use Rattle.std.specs.Prelude.{◌≡◌};
+ghost use Rattle.bounds.specs.Bounds.{top, bottom, raw, limited};
 ghost use Rattle.bounds.specs.Kept.{told};
 
 use crate::kept_window::Window;
+use crate::parts::Parts;
 use curve::{Curve, Sides};
+use rules::{Falling, Rising};
 
-// The most that the held contracts can ask for.
-fn top(held: Sides, full: i64) -> i64
-    ensures { result ≡ top held full }
-{
-    match held {
-        Sides::Low | Sides::Both => full,
-        Sides::High => 0,
+// In parts, the lower first.
+#[derive(Clone, Copy)]
+pub struct Bounds {
+    pub lower: Parts,
+    pub upper: Parts,
+}
+
+impl Bounds {
+    ghost use Rattle.bounds.specs.Kept.{parts_of};
+
+    // The least and the most that the held contracts can ask for.
+    fn widest(held: Sides, full: Parts) -> Bounds
+        ensures { parts_of result ≡ (bottom held full.n, top held full.n) }
+    {
+        let (lower, upper) = match held {
+            Sides::Low => (0, full.n),
+            Sides::High => (-full.n, 0),
+            Sides::Both => (-full.n, full.n),
+        };
+        Bounds {
+            lower: Parts { n: lower },
+            upper: Parts { n: upper },
+        }
+    }
+
+    // The raw bounds: in grace the widest, else the curve at the window's highest and at its lowest frequency. (Curve
+    // and contracts stay two: a track takes in readings on any curve, and to ask for a `Sided`, which has both, would ask more.)
+    pub fn raw<K: Curve>(curve: &K, held: Sides, in_grace: bool, window: &Window) -> Bounds
+        ensures { parts_of result ≡ raw held (K.Curve.shape curve.now) in_grace (told window.now) }
+    {
+        if in_grace {
+            Bounds::widest(held, Parts::full(curve))
+        } else {
+            Bounds {
+                lower: Parts::at(curve, window.first::<Falling>()),
+                upper: Parts::at(curve, window.first::<Rising>()),
+            }
+        }
+    }
+
+    // A bound closes in by at most the ramp a reading, and opens at once.
+    pub fn limited<K: Curve>(self, curve: &K, last: Bounds) -> Bounds
+        ensures { parts_of result ≡ limited (K.Curve.shape curve.now).ramp (parts_of last) (parts_of self) }
+    {
+        let ramp = curve.ramp();
+        let lower = self.lower.n.min(last.lower.n + ramp);
+        let upper = self.upper.n.max(last.upper.n - ramp);
+        Bounds {
+            lower: Parts { n: lower },
+            upper: Parts { n: upper },
+        }
     }
 }
 
-// The least that the held contracts can ask for.
-fn bottom(held: Sides, full: i64) -> i64
-    requires { pos 0 ≤ℤ full }
-    ensures { result ≡ bottom held full }
-{
-    match held {
-        Sides::Low => 0,
-        Sides::High | Sides::Both => -full,
+impl From<Bounds> for (i64, i64) {
+    ghost use Rattle.bounds.specs.Kept.{parts_of};
+
+    ghost from_gives = { λ bounds pair. pair ≡ parts_of bounds };
+
+    fn from(bounds: Bounds) -> (i64, i64) {
+        (bounds.lower.n, bounds.upper.n)
     }
-}
-
-// The raw bounds: in grace the widest, else the curve at the window's highest and at its lowest frequency.
-pub(crate) fn raw_bounds<K: Curve>(
-    curve: &K,
-    held: Sides,
-    in_grace: bool,
-    window: &Window,
-) -> (i64, i64)
-    ensures value { result ≡ raw held (K.Curve.shape curve.now) in_grace (told window.now) }
-    ensures lower { (negsuc 999999 ≤ℤ result.0) × (result.0 ≤ℤ pos 1000000) }
-    ensures upper { (negsuc 999999 ≤ℤ result.1) × (result.1 ≤ℤ pos 1000000) }
-{
-    if in_grace {
-        let full = curve.full();
-        (bottom(held, full), top(held, full))
-    } else {
-        (curve.parts(window.highest()), curve.parts(window.lowest()))
-    }
-}
-
-// The lower bound rises by at most the ramp.
-pub(crate) fn slow_lower(raw: i64, last: i64, ramp: i64) -> i64
-    requires parts_within { (negsuc 999999 ≤ℤ raw) × ((raw ≤ℤ pos 1000000) × ((negsuc 999999 ≤ℤ last) × (last ≤ℤ pos 1000000))) }
-    requires ramp_within { (pos 1 ≤ℤ ramp) × (ramp ≤ℤ pos 1000000) }
-    ensures value { result ≡ int_min raw (last +ℤ ramp) }
-    ensures bounds { (negsuc 999999 ≤ℤ result) × (result ≤ℤ pos 1000000) }
-{
-    raw.min(last + ramp)
-}
-
-// The upper bound falls by at most the ramp.
-pub(crate) fn slow_upper(raw: i64, last: i64, ramp: i64) -> i64
-    requires parts_within { (negsuc 999999 ≤ℤ raw) × ((raw ≤ℤ pos 1000000) × ((negsuc 999999 ≤ℤ last) × (last ≤ℤ pos 1000000))) }
-    requires ramp_within { (pos 1 ≤ℤ ramp) × (ramp ≤ℤ pos 1000000) }
-    ensures value { result ≡ int_max raw (last -ℤ ramp) }
-    ensures bounds { (negsuc 999999 ≤ℤ result) × (result ≤ℤ pos 1000000) }
-{
-    raw.max(last - ramp)
 }

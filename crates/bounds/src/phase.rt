@@ -39,10 +39,7 @@ impl Phase {
     pub fn in_grace(self) -> bool
         ensures { result ≡ in_grace self }
     {
-        match self {
-            Phase::Grace(_) => true,
-            Phase::Waiting | Phase::Following => false,
-        }
+        matches!(self, Phase::Grace(_))
     }
 }
 
@@ -56,10 +53,7 @@ impl Event {
     pub fn is_gap(self) -> bool
         ensures { result ≡ is_gap self }
     {
-        match self {
-            Event::Gap => true,
-            Event::Plain | Event::ContractBack => false,
-        }
+        matches!(self, Event::Gap)
     }
 
     // What the reading is after the last one that was accepted.

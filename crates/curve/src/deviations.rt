@@ -6,10 +6,11 @@ ghost use Rattle.curve.specs.Deviations.{deviation, signed};
 pub(crate) fn deviation(frequency: i64) -> i64
     ensures { result ≡ deviation frequency }
 {
-    50_000 - frequency.min(60_000).max(40_000)
+    50_000 - frequency.clamp(40_000, 60_000)
 }
 
-// Parts with the sign of a deviation: below nominal they are positive.
+// Parts with the sign of a deviation: below nominal they are positive. (Two makes of curve mirror their parts so, in two lines:
+// a closure for the parts, with its pre and post, is no plainer.)
 pub(crate) fn signed(deviation: i64, parts: u64) -> i64
     requires { parts ≤ 1000000 }
     ensures value { result ≡ signed deviation parts }

@@ -27,7 +27,7 @@ pub enum PointsFault {
 }
 
 impl PointsFault {
-    // The number by which the fault is reported.
+    // The number by which the fault is reported. (Each type of fault has this line: a trait would ask it of each again.)
     pub fn number(self) -> u32
         ensures { result ≡ fault_number self }
     {
@@ -63,7 +63,7 @@ fn rising(points: &[Point]) -> bool
     true
 }
 
-// The parts of the last point.
+// The parts of the last point. (`map_or` was tried for the match: search gave up on its goal.)
 pub(crate) fn full_parts(points: &[Point]) -> i64
     ensures { result ≡ full_parts points.now }
 {
@@ -101,7 +101,8 @@ fn climbing(points: &[Point]) -> bool
     starts(points) && climbs(points) && (1..=1_000_000).contains(&full_parts(points))
 }
 
-// The first fault, in the order of the enum.
+// The first fault, in the order of the enum. (Points, ramp and lag are one thing only once they are held: a struct of them for
+// this call is no plainer.)
 pub(crate) fn check(points: &[Point], ramp: i64, lag: i64) -> Result<(), PointsFault>
     ensures { elim result [ Ok _ ↦ refused_points points.now ramp lag ≡ None | Err fault ↦ refused_points points.now ramp lag ≡ Some fault ] }
 {

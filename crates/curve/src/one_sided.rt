@@ -5,12 +5,12 @@ ghost use Rattle.curve.specs.SidedFacts.{sided_is_curve};
 
 use crate::response::Curve;
 
-// Which contracts are held: low alone, high alone, or both.
+// Which contracts are held: low alone, high alone, or both; with its place in a table of one entry for each.
 #[derive(Clone, Copy, PartialEq, Eq, Debug)]
 pub enum Sides {
-    Low,
-    High,
-    Both,
+    Low = 0,
+    High = 1,
+    Both = 2,
 }
 
 impl Sides {

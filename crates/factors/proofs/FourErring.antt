@@ -1,12 +1,13 @@
 -- A rolling error of more than a stands where four successive readings of one period err by more than a. Assumes nothing.
-use Rattle.std.proofs.Common.{◌≡◌, ℕ, zero, suc, ◌+◌, ◌<◌, ◌≤◌, Bool, true, false, cond, eqb, ltb, List, [], ◌∷◌, length, Some, None, Option, sym, refl, ap, subst, arith}
+use Rattle.std.proofs.Common.{◌≡◌, ℕ, zero, suc, ◌+◌, ◌<◌, Bool, true, false, cond, eqb, ltb, List, [], ◌∷◌, length, Some, None, Option, sym, refl, ap, subst, arith}
 use Rattle.std.specs.List.{best_of, AllByRecursion}
 use Rattle.std.proofs.lemmas.Bool.{and_parts, and_from, eqb-true, eq-eqb, cond-true}
-use Rattle.std.proofs.lemmas.Bool.Decides.{nat_tests}
+use Rattle.std.proofs.lemmas.List.Elements.{All-from_recursion, recursion_from_All}
 use Rattle.rules.specs.Least.{least}
 use Rattle.factors.specs.Promises.{Over}
 use Rattle.factors.specs.Rolling.{together, joins, onto, run, least_of_four, rolling}
 use Rattle.factors.specs.declared.judgement.Judgement.{Judgement}
+use Rattle.factors.proofs.LeastFacts.{least_lowest}
 
 -- the newest n readings follow on one another and err by more than a
 abbrev pub Linked : ℕ → Judgement → List Judgement → Type 0
@@ -54,22 +55,12 @@ full_erring a (suc n) (j ∷ js) f =
 
 -- the least of some errors is above a exactly if all are
 best_over : (a x : ℕ) (es : List ℕ) → a < x → AllByRecursion (λ e. a < e) es → a < best_of ltb x es
-best_over a x [] h hs = h
-best_over a x (e ∷ es) h hs =
-    let k : a < e = hs.0 in
-    let l : a < cond (ltb e x) e x = grind (arith, nat_tests) in
-    best_over a (cond (ltb e x) e x) es l hs.1
+best_over a x es h hs =
+    let low = least_lowest (λ e. e) x es x in
+    omega (arith, low.reached, All-from_recursion (λ e. a < e) (x ∷ es) (h, hs) low.place x low.within)
 
-over_best : (a x : ℕ) (es : List ℕ) → a < best_of ltb x es → (a < x) × AllByRecursion (λ e. a < e) es
-over_best a x [] h = (h, tt)
-over_best a x (e ∷ es) h =
-    let rest = over_best a (cond (ltb e x) e x) es h in
-    let l : a < cond (ltb e x) e x = rest.0 in
-    let m : cond (ltb e x) e x ≤ x = grind (arith, nat_tests) in
-    let n : cond (ltb e x) e x ≤ e = grind (arith, nat_tests) in
-    let o : a < x = omega arith in
-    let p : a < e = omega arith in
-    (o, (p, rest.1))
+over_best : (a x : ℕ) (es : List ℕ) → a < best_of ltb x es → AllByRecursion (λ e. a < e) (x ∷ es)
+over_best a x es h = recursion_from_All (λ e. a < e) (x ∷ es) (λ k d l. omega (arith, h, (least_lowest (λ e. e) x es d).below k l))
 
 four_full : (a e : ℕ) (b : Bool) (es : List ℕ) → eqb (length es) 4 ≡ b → cond b (least ltb es) None ≡ Some e → a < e → Full a 4 es
 four_full a e false es t h l = let z : ◌≡◌ {A = ℕ} 0 1 = cc in absurd (omega arith)

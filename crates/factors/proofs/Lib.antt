@@ -1,9 +1,10 @@
 pub mod FactorFacts
 pub mod FourErring
+pub mod FromFn
+pub mod LeastFacts
 pub mod LowestFacts
 pub mod MoneyFacts
 pub mod PromiseFacts
-pub mod RollingFacts
 pub mod TallyFacts
 pub mod WorseErrors
 pub mod WorstFacts

@@ -1,39 +1,23 @@
 -- The lowest factor is that of some period, and no period has a lower one. Assumes nothing.
-use Rattle.std.proofs.Common.{◌≡◌, ℕ, ◌+◌, ◌<◌, ◌≤◌, List, [], ◌∷◌, map, length, get_or, set, sym, ap, ◌∙◌, arith}
+use Rattle.std.proofs.Common.{◌≡◌, ℕ, ◌<◌, ◌≤◌, List, [], ◌∷◌, map, length, get_or, ap, ◌∙◌, arith}
 use Rattle.std.specs.List.{range_with_len}
-use Rattle.std.proofs.lemmas.List.MinMax.{IsStrictWeakOrder-by_number, IsFirstBest-from_best_of}
 use Rattle.std.proofs.lemmas.List.FromFn.{length-map-range_with_len, get_or-map-range_with_len, fill_by_all}
-use Rattle.std.proofs.lemmas.List.Edits.{fill_by_more}
-use Rattle.std.proofs.lemmas.List.{get_or_default, length-set}
-use Rattle.std.proofs.lemmas.Bool.{ltb-false}
 use Rattle.rules.specs.Terms.{periods}
 use Rattle.rules.specs.declared.terms.Terms.{Terms}
 use Rattle.rules.proofs.TermsFacts.{facts}
 use Rattle.factors.specs.Factors.{whole, factor, figures, figures_of, period_factor, all_figures, tabled, lowest, block_factor}
-use Rattle.factors.specs.Periods.{period_count, beyond}
+use Rattle.factors.specs.Periods.{beyond}
 use Rattle.factors.specs.Tally.{Tallied}
 use Rattle.factors.specs.declared.judgement.Judgement.{Judgement}
 use Rattle.factors.specs.declared.period_record.PeriodRecord.{PeriodRecord}
 use Rattle.factors.specs.declared.settlement.PeriodFigures.{PeriodFigures}
 use Rattle.factors.specs.declared.tally.Tally.{Tally}
 use Rattle.factors.proofs.FactorFacts.{factor_most}
-
-pub record LowestOf (n : ℕ) (f : ℕ → ℕ) (low : ℕ) : Type 0 where
-  pub place : ℕ
-  pub within : place < n
-  pub reached : low ≡ f place
-  pub below : (k : ℕ) → k < n → low ≤ f k
+use Rattle.factors.proofs.LeastFacts.{LowestOf, least_lowest}
 
 lowest_at : (fs : List PeriodFigures) (d : PeriodFigures) → 0 < length fs → LowestOf (length fs) (λ k. (get_or fs k d).factor) (lowest fs)
 lowest_at [] d h = absurd (omega arith)
-lowest_at (f ∷ fs) d h =
-    let best = IsFirstBest-from_best_of (IsStrictWeakOrder-by_number (λ x. x.factor)) f fs in
-    record {
-      place = best.0;
-      within = best.1.0;
-      reached = ap (λ x. x.factor) (sym best.2) ∙ ap (λ x. x.factor) (get_or_default (f ∷ fs) best.0 f d best.1.0);
-      below = λ k l. omega (arith, ltb-false (get_or (f ∷ fs) k f).factor (get_or (f ∷ fs) best.0 f).factor (best.1.1 k f l), ap (λ x. x.factor) best.2, ap (λ x. x.factor) (get_or_default (f ∷ fs) k f d l));
-    }
+lowest_at (f ∷ fs) d h = least_lowest (λ (f : PeriodFigures). f.factor) f fs d
 
 lowest_counted : (g : ℕ → PeriodFigures) (n : ℕ) → 0 < n → LowestOf n (λ k. (g k).factor) (lowest (map g (range_with_len 0 n)))
 lowest_counted g n h =
@@ -69,12 +53,3 @@ tabled_is t y js h =
     let g : ℕ → PeriodFigures = λ p. figures_of t p (get_or y.records p beyond) in
     fill_by_all (λ p. figures t p js) (map g (range_with_len 0 (periods t))) (periods t) (g 0) (length-map-range_with_len g 0 (periods t))
     (λ k w. get_or-map-range_with_len g 0 (periods t) k k (g 0) w (omega arith) ∙ ap (figures_of t k) (h.each k w))
-
--- the loop that makes the figures
-pub table_more : (t : Terms) (records : List PeriodRecord) (table : List PeriodFigures) (p : ℕ) (x : PeriodFigures) → length table ≡ period_count → p < period_count → x ≡ figures_of t p (get_or records p beyond) → ((k : ℕ) → k < p → get_or table k (figures_of t 0 beyond) ≡ figures_of t k (get_or records k beyond)) → (length (set table p x) ≡ period_count) × ((k : ℕ) → k < p + 1 → get_or (set table p x) k (figures_of t 0 beyond) ≡ figures_of t k (get_or records k beyond))
-table_more t records table p x l h is done =
-    (length-set table p x ∙ l, λ k v. ap (λ y. get_or (set table p y) k (figures_of t 0 beyond)) is ∙ fill_by_more (λ i. figures_of t i (get_or records i beyond)) table p (figures_of t 0 beyond) (omega arith) done k v)
-
-pub table_all : (t : Terms) (records : List PeriodRecord) (table : List PeriodFigures) (p : ℕ) → length table ≡ period_count → period_count ≤ p → ((k : ℕ) → k < p → get_or table k (figures_of t 0 beyond) ≡ figures_of t k (get_or records k beyond)) → table ≡ tabled t records
-unfolding tabled
-table_all t records table p l h done = fill_by_all (λ i. figures_of t i (get_or records i beyond)) table (periods t) (figures_of t 0 beyond) l (λ k w. done k (omega arith))

@@ -1,9 +1,8 @@
 -- Errors that are not smaller give no smaller rolling errors, and the rest stays. Assumes nothing.
-use Rattle.std.proofs.Common.{◌≡◌, ℕ, zero, suc, ◌≤◌, max, Bool, true, false, cond, eqb, ltb, List, [], ◌∷◌, length, Some, None, Option, sym, refl, ap, ◌∙◌, subst, inl, inr, arith}
+use Rattle.std.proofs.Common.{◌≡◌, ℕ, zero, suc, ◌<◌, ◌≤◌, max, Bool, true, false, cond, eqb, ltb, List, [], ◌∷◌, length, Some, None, Option, sym, refl, subst, arith}
 use Rattle.std.specs.List.{best_of, AllZip, AllByRecursion}
-use Rattle.std.proofs.lemmas.List.Elements.{length_all_zip}
-use Rattle.std.proofs.lemmas.Bool.{cases_lt, cond-true, cond-false, lt-ltb, le-ltb}
-use Rattle.std.proofs.lemmas.Bool.Decides.{nat_tests}
+use Rattle.std.proofs.lemmas.List.Elements.{length_all_zip, AllZip-get_or}
+use Rattle.std.proofs.lemmas.Bool.{cond_both, ltb-true, ltb-false}
 use Rattle.rules.specs.Least.{least}
 use Rattle.factors.specs.Periods.{readings, throughout}
 use Rattle.factors.specs.Promises.{NoSmallerError, ErrsNoLess, NoSmaller, AtMost}
@@ -11,6 +10,7 @@ use Rattle.factors.specs.Rolling.{joins, onto, run, least_of_four, rolling}
 use Rattle.factors.specs.Worst.{worse, worst}
 use Rattle.factors.specs.declared.judgement.Judgement.{Judgement}
 use Rattle.factors.specs.declared.worst.Worst.{Worst}
+use Rattle.factors.proofs.LeastFacts.{least_lowest}
 
 abbrev NoLess : List ℕ → List ℕ → Type 0
 NoLess es fs = AllZip (λ e f. e ≤ f) es fs
@@ -27,9 +27,10 @@ onto_no_less None (Some f) es fs h hs = absurd h
 onto_no_less (Some e) None es fs h hs = absurd h
 onto_no_less (Some e) (Some f) es fs h hs = (h, hs)
 
-cond_no_less : (b : Bool) (es fs : List ℕ) → NoLess es fs → NoLess (cond b es []) (cond b fs [])
-cond_no_less true es fs h = h
-cond_no_less false es fs h = tt
+-- what holds of each side of a choice holds of what is chosen
+both_ways : {A B : Type 0} (R : A → B → Type 0) (b : Bool) (x y : A) (u v : B) → R x u → R y v → R (cond b x y) (cond b u v)
+both_ways R true x y u v h k = h
+both_ways R false x y u v h k = k
 
 run_no_less : (n : ℕ) (js ks : List Judgement) → NoSmaller js ks → NoLess (run n js) (run n ks)
 run_no_less zero js ks h = tt
@@ -39,20 +40,14 @@ run_no_less (suc n) (j ∷ js) [] h = absurd h
 run_no_less (suc n) (j ∷ js) (k ∷ ks) h =
     let same : joins k ks ≡ joins j js = joins_same j k js ks h.0 h.1 in
     onto_no_less j.error k.error _ _ h.0.error
-    (subst (λ b. NoLess (cond (joins j js) (run n js) []) (cond b (run n ks) [])) (sym same) (cond_no_less (joins j js) _ _ (run_no_less n js ks h.1)))
+    (subst (λ b. NoLess (cond (joins j js) (run n js) []) (cond b (run n ks) [])) (sym same) (both_ways NoLess (joins j js) _ _ _ _ (run_no_less n js ks h.1) tt))
 
 best_no_less : (a b : ℕ) (es fs : List ℕ) → a ≤ b → NoLess es fs → best_of ltb a es ≤ best_of ltb b fs
-best_no_less a b [] [] h hs = h
-best_no_less a b [] (f ∷ fs) h hs = absurd hs
-best_no_less a b (e ∷ es) [] h hs = absurd hs
-best_no_less a b (e ∷ es) (f ∷ fs) h hs =
-    let k : e ≤ f = hs.0 in
-    let l : cond (ltb e a) e a ≤ cond (ltb f b) f b = grind (arith, nat_tests) in
-    best_no_less (cond (ltb e a) e a) (cond (ltb f b) f b) es fs l hs.1
-
-cond_no_smaller : (b : Bool) (o q : Option ℕ) → NoSmallerError o q → NoSmallerError (cond b o None) (cond b q None)
-cond_no_smaller true o q h = h
-cond_no_smaller false o q h = tt
+best_no_less a b es fs h hs =
+    let low = least_lowest (λ e. e) b fs b in
+    let pairs : NoLess (a ∷ es) (b ∷ fs) = (h, hs) in
+    let within : low.place < length (a ∷ es) = omega (arith, low.within, length_all_zip (λ e f. e ≤ f) (a ∷ es) (b ∷ fs) pairs) in
+    omega (arith, low.reached, (least_lowest (λ e. e) a es a).below low.place within, AllZip-get_or (λ e f. e ≤ f) (a ∷ es) (b ∷ fs) low.place a b pairs within)
 
 four_no_less : (es fs : List ℕ) → NoLess es fs → NoSmallerError (least_of_four es) (least_of_four fs)
 four_no_less [] [] h = tt
@@ -61,28 +56,20 @@ four_no_less (e ∷ es) [] h = absurd h
 four_no_less (e ∷ es) (f ∷ fs) h =
     let same : length (e ∷ es) ≡ length (f ∷ fs) = length_all_zip (λ e f. e ≤ f) (e ∷ es) (f ∷ fs) h in
     subst (λ n. NoSmallerError (least_of_four (e ∷ es)) (cond (eqb n 4) (least ltb (f ∷ fs)) None)) same
-    (cond_no_smaller (eqb (length (e ∷ es)) 4) (least ltb (e ∷ es)) (least ltb (f ∷ fs)) (best_no_less e f es fs h.0 h.1))
+    (both_ways NoSmallerError (eqb (length (e ∷ es)) 4) (least ltb (e ∷ es)) None (least ltb (f ∷ fs)) None (best_no_less e f es fs h.0 h.1) tt)
 
 rolling_no_less : (js ks : List Judgement) → NoSmaller js ks → NoSmallerError (rolling js) (rolling ks)
 rolling_no_less js ks h = four_no_less (run 4 js) (run 4 ks) (run_no_less 4 js ks h)
 
 -- the error after one more is the larger of the two
 pub worse_error : (w : Worst) (e k : ℕ) → (worse w (Some e) k).error ≡ max w.error e
-worse_error w e k =
-    elim (cases_lt w.error e) [
-      | inl h ↦ ap (λ (x : Worst). x.error) (cond-true (ltb w.error e) _ _ (lt-ltb w.error e h)) ∙ omega arith
-      | inr h ↦ ap (λ (x : Worst). x.error) (cond-false (ltb w.error e) _ _ (le-ltb w.error e h)) ∙ omega arith
-    ]
+worse_error w e k = cond_both (ltb w.error e) _ _ (λ (x : Worst). x.error ≡ max w.error e) (λ t. omega (arith, ltb-true w.error e t)) (λ t. omega (arith, ltb-false w.error e t))
 
 worse_no_less : (w v : Worst) (o q : Option ℕ) (k l : ℕ) → w.error ≤ v.error → NoSmallerError o q → (worse w o k).error ≤ (worse v q l).error
 worse_no_less w v None None k l h e = h
 worse_no_less w v None (Some f) k l h e = absurd e
 worse_no_less w v (Some x) None k l h e = absurd e
 worse_no_less w v (Some x) (Some y) k l h e = omega (arith, worse_error w x k, worse_error v y l)
-
-cond_worst : (b : Bool) (w v x y : Worst) → w.error ≤ x.error → v.error ≤ y.error → (cond b w v).error ≤ (cond b x y).error
-cond_worst true w v x y h k = h
-cond_worst false w v x y h k = k
 
 pub worst_no_less : (p : ℕ) (js ks : List Judgement) → NoSmaller js ks → (worst p js).error ≤ (worst p ks).error
 worst_no_less p [] [] h = omega arith
@@ -91,7 +78,7 @@ worst_no_less p (j ∷ js) [] h = absurd h
 worst_no_less p (j ∷ js) (k ∷ ks) h =
     let before = worst_no_less p js ks h.1 in
     subst (λ i. (worst p (j ∷ js)).error ≤ (cond (eqb i p) (worse (worst p ks) (rolling (k ∷ ks)) k.tick) (worst p ks)).error) (sym h.0.period)
-    (cond_worst (eqb j.period p) _ _ _ _ (worse_no_less (worst p js) (worst p ks) _ _ j.tick k.tick before (rolling_no_less (j ∷ js) (k ∷ ks) h)) before)
+    (both_ways (λ (w v : Worst). w.error ≤ v.error) (eqb j.period p) _ _ _ _ (worse_no_less (worst p js) (worst p ks) _ _ j.tick k.tick before (rolling_no_less (j ∷ js) (k ∷ ks) h)) before)
 
 pub readings_same : (p : ℕ) (js ks : List Judgement) → NoSmaller js ks → readings p ks ≡ readings p js
 readings_same p [] [] h = refl
@@ -110,42 +97,23 @@ onto_most : (a : ℕ) (o : Option ℕ) (es : List ℕ) → AtMost a o → AllByR
 onto_most a None es h hs = tt
 onto_most a (Some e) es h hs = (h, hs)
 
-cond_most : (a : ℕ) (b : Bool) (es : List ℕ) → AllByRecursion (λ e. e ≤ a) es → AllByRecursion (λ e. e ≤ a) (cond b es [])
-cond_most a true es h = h
-cond_most a false es h = tt
-
 run_most : (a n : ℕ) (js : List Judgement) → AllByRecursion (λ j. AtMost a j.error) js → AllByRecursion (λ e. e ≤ a) (run n js)
 run_most a zero js h = tt
 run_most a (suc n) [] h = tt
-run_most a (suc n) (j ∷ js) h = onto_most a j.error _ h.0 (cond_most a (joins j js) _ (run_most a n js h.1))
-
-best_first : (a : ℕ) (es : List ℕ) → best_of ltb a es ≤ a
-best_first a [] = omega arith
-best_first a (e ∷ es) =
-    let rest = best_first (cond (ltb e a) e a) es in
-    let least : cond (ltb e a) e a ≤ a = grind (arith, nat_tests) in
-    omega arith
-
-cond_at_most : (a : ℕ) (b : Bool) (o : Option ℕ) → AtMost a o → AtMost a (cond b o None)
-cond_at_most a true o h = h
-cond_at_most a false o h = tt
+run_most a (suc n) (j ∷ js) h = onto_most a j.error _ h.0 (cond_both (joins j js) (run n js) [] (AllByRecursion (λ e. e ≤ a)) (λ _. run_most a n js h.1) (λ _. tt))
 
 four_most : (a : ℕ) (es : List ℕ) → AllByRecursion (λ e. e ≤ a) es → AtMost a (least_of_four es)
 four_most a [] h = tt
 four_most a (e ∷ es) h =
-    let least : best_of ltb e es ≤ a = omega (arith, best_first e es, h.0) in
-    cond_at_most a (eqb (length (e ∷ es)) 4) (Some (best_of ltb e es)) least
+    let least : best_of ltb e es ≤ a = omega (arith, (least_lowest (λ e. e) e es e).below 0 (omega arith), h.0) in
+    cond_both (eqb (length (e ∷ es)) 4) (Some (best_of ltb e es)) None (AtMost a) (λ _. least) (λ _. tt)
 
 worse_most : (a : ℕ) (w : Worst) (o : Option ℕ) (k : ℕ) → w.error ≤ a → AtMost a o → (worse w o k).error ≤ a
 worse_most a w None k h e = h
 worse_most a w (Some x) k h e = omega (arith, worse_error w x k)
 
-cond_worst_most : (a : ℕ) (b : Bool) (w v : Worst) → w.error ≤ a → v.error ≤ a → (cond b w v).error ≤ a
-cond_worst_most a true w v h k = h
-cond_worst_most a false w v h k = k
-
 pub worst_most : (a p : ℕ) (js : List Judgement) → AllByRecursion (λ j. AtMost a j.error) js → (worst p js).error ≤ a
 worst_most a p [] h = omega arith
 worst_most a p (j ∷ js) h =
     let before = worst_most a p js h.1 in
-    cond_worst_most a (eqb j.period p) _ _ (worse_most a (worst p js) _ j.tick before (four_most a (run 4 (j ∷ js)) (run_most a 4 (j ∷ js) h))) before
+    cond_both (eqb j.period p) _ _ (λ (w : Worst). w.error ≤ a) (λ _. worse_most a (worst p js) _ j.tick before (four_most a (run 4 (j ∷ js)) (run_most a 4 (j ∷ js) h))) (λ _. before)

@@ -1,6 +1,6 @@
 -- The recursion for E gives the largest rolling error, and the first tick that reached it. Assumes nothing.
-use Rattle.std.proofs.Common.{◌≡◌, ℕ, ◌<◌, ◌≤◌, Bool, true, false, cond, eqb, ltb, ◌⊎◌, List, [], ◌∷◌, ◌++◌, Some, None, Option, sym, refl, ap, subst, inl, inr, arith}
-use Rattle.std.proofs.lemmas.Bool.{eq-eqb, eqb-true, ltb-true, cond-true}
+use Rattle.std.proofs.Common.{◌≡◌, ℕ, ◌<◌, ◌≤◌, eqb, ltb, ◌⊎◌, List, [], ◌∷◌, ◌++◌, Some, None, Option, sym, refl, ap, subst, inl, inr, arith}
+use Rattle.std.proofs.lemmas.Bool.{eq-eqb, eqb-true, ltb-true, cond-true, cond_both}
 use Rattle.factors.specs.Rolling.{rolling}
 use Rattle.factors.specs.Worst.{unerring, worse, worst, Erred, Reached, Largest}
 use Rattle.factors.specs.declared.judgement.Judgement.{Judgement}
@@ -12,12 +12,8 @@ worse_grows : (w : Worst) (o : Option ℕ) (k : ℕ) → w.error ≤ (worse w o 
 worse_grows w None k = omega arith
 worse_grows w (Some e) k = omega (arith, worse_error w e k)
 
-cond_grows : (b : Bool) (w v : Worst) → w.error ≤ v.error → w.error ≤ (cond b v w).error
-cond_grows true w v h = h
-cond_grows false w v h = omega arith
-
 pub worst_grows : (p : ℕ) (j : Judgement) (js : List Judgement) → (worst p js).error ≤ (worst p (j ∷ js)).error
-worst_grows p j js = cond_grows (eqb j.period p) (worst p js) _ (worse_grows (worst p js) (rolling (j ∷ js)) j.tick)
+worst_grows p j js = cond_both (eqb j.period p) _ _ (λ (w : Worst). (worst p js).error ≤ w.error) (λ _. worse_grows (worst p js) (rolling (j ∷ js)) j.tick) (λ _. omega arith)
 
 -- it is at least the rolling error at a reading of its period
 worse_takes : (w : Worst) (o : Option ℕ) (e k : ℕ) → o ≡ Some e → e ≤ (worse w o k).error
@@ -40,23 +36,17 @@ later : (p : ℕ) (j : Judgement) (js : List Judgement) (w : Worst) → (w ≡ u
 later p j js w (inl h) = inl h
 later p j js w (inr h) = inr (record { newer = j ∷ h.newer; place = h.place; older = h.older; stands = ap (λ x. j ∷ x) h.stands; period = h.period; error = h.error; tick = h.tick; positive = h.positive; earliest = h.earliest })
 
-chosen : (p : ℕ) (j : Judgement) (js : List Judgement) (e : ℕ) (b : Bool) → ltb (worst p js).error e ≡ b → j.period ≡ p → rolling (j ∷ js) ≡ Some e → (worst p js ≡ unerring) ⊎ Reached p js (worst p js) → (cond b (record { error = e; tick = Some j.tick }) (worst p js) ≡ unerring) ⊎ Reached p (j ∷ js) (cond b (record { error = e; tick = Some j.tick }) (worst p js))
-chosen p j js e true t h is before =
-    let above : (worst p js).error < e = ltb-true (worst p js).error e t in
-    inr (record { newer = []; place = j; older = js; stands = refl; period = h; error = is; tick = refl; positive = omega arith; earliest = λ x y. omega (arith, most p js x y) })
-chosen p j js e false t h is before = later p j js (worst p js) before
-
 taken : (p : ℕ) (j : Judgement) (js : List Judgement) (o : Option ℕ) → j.period ≡ p → rolling (j ∷ js) ≡ o → (worst p js ≡ unerring) ⊎ Reached p js (worst p js) → (worse (worst p js) o j.tick ≡ unerring) ⊎ Reached p (j ∷ js) (worse (worst p js) o j.tick)
 taken p j js None h is before = later p j js (worst p js) before
-taken p j js (Some e) h is before = chosen p j js e (ltb (worst p js).error e) refl h is before
-
-either : (p : ℕ) (j : Judgement) (js : List Judgement) (b : Bool) → eqb j.period p ≡ b → (worst p js ≡ unerring) ⊎ Reached p js (worst p js) → (cond b (worse (worst p js) (rolling (j ∷ js)) j.tick) (worst p js) ≡ unerring) ⊎ Reached p (j ∷ js) (cond b (worse (worst p js) (rolling (j ∷ js)) j.tick) (worst p js))
-either p j js true h before = taken p j js (rolling (j ∷ js)) (eqb-true j.period p h) refl before
-either p j js false h before = later p j js (worst p js) before
+taken p j js (Some e) h is before =
+    cond_both (ltb (worst p js).error e) _ _ (λ w. (w ≡ unerring) ⊎ Reached p (j ∷ js) w)
+    (λ t. let above : (worst p js).error < e = ltb-true (worst p js).error e t in inr (record { newer = []; place = j; older = js; stands = refl; period = h; error = is; tick = refl; positive = omega arith; earliest = λ x y. omega (arith, most p js x y) }))
+    (λ _. later p j js (worst p js) before)
 
 pub reached : (p : ℕ) (js : List Judgement) → (worst p js ≡ unerring) ⊎ Reached p js (worst p js)
 reached p [] = inl refl
-reached p (j ∷ js) = either p j js (eqb j.period p) refl (reached p js)
+reached p (j ∷ js) =
+    cond_both (eqb j.period p) _ _ (λ w. (w ≡ unerring) ⊎ Reached p (j ∷ js) w) (λ t. taken p j js (rolling (j ∷ js)) (eqb-true j.period p t) refl (reached p js)) (λ _. later p j js (worst p js) (reached p js))
 
 pub worst_largest : (p : ℕ) (js : List Judgement) → Largest p js (worst p js)
 worst_largest p js = record { most = most p js; reached = reached p js }

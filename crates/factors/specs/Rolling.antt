@@ -1,8 +1,9 @@
 -- The rolling error of one contract, over the judgements of its readings, newest first. Assumes nothing.
-use Rattle.std.specs.Prelude.{◌≡◌, ℕ, zero, suc, ◌+◌, ◌<◌, ◌≤◌, Bool, false, cond, ◌&&◌, ltb, List, [], ◌∷◌, length, take, Some, None, Option, ◌==◌, nat_lt}
+use Rattle.std.specs.Prelude.{◌≡◌, ℕ, zero, suc, ◌+◌, Bool, false, cond, ◌&&◌, ltb, List, [], ◌∷◌, length, Some, None, Option, IfSome, ◌==◌}
 use Rattle.rules.specs.Least.{least}
 use Rattle.factors.specs.declared.judgement.Judgement.{Judgement}
 use Rattle.factors.specs.declared.rolling.Rolling.{Rolling}
+use Rattle.factors.specs.declared.rolling.Run.{Run}
 
 -- The second reading follows on the first: on the next tick, in the same period.
 abbrev pub together : Judgement → Judgement → Bool
@@ -38,19 +39,24 @@ abbrev pub Newest : ℕ → ℕ → List Judgement → Type 0
 Newest tick period [] = ⊥
 Newest tick period (j ∷ js) = (j.tick ≡ tick) × (j.period ≡ period)
 
+-- The errors of a list up to the first place that has none.
+abbrev pub leading : List (Option ℕ) → List ℕ
+leading [] = []
+leading (o ∷ os) = onto o (leading os)
+
+-- The errors of a run, newest first; and those of the run that a rolling error keeps, if it keeps one.
+abbrev pub errors : Run → List ℕ
+errors u = u.error ∷ leading u.before
+
+abbrev pub kept : Rolling → List ℕ
+kept r = elim r.run [ None ↦ [] | Some u ↦ errors u ]
+
 -- The state of a rolling error after these readings.
 pub record Runs (r : Rolling) (js : List Judgement) : Type 0 where
-  pub places : length r.errors ≡ 4
-  pub most : r.count ≤ 4
-  pub errors : take r.count r.errors ≡ run 4 js
-  pub newest : 0 < r.count → Newest r.tick r.period js
+  pub places : IfSome r.run (λ u. length u.before ≡ 3)
+  pub errors : kept r ≡ run 4 js
+  pub newest : IfSome r.run (λ u. Newest u.tick u.period js)
 
--- The steps of the state: whether a reading follows on the run, the run's length with it, and the least of the last four.
-abbrev pub extends : Rolling → Judgement → Bool
-extends r j = nat_lt 0 r.count && (j.tick == r.tick + 1 && j.period == r.period)
-
-abbrev pub longer : Bool → ℕ → ℕ
-longer follows n = cond follows (cond (nat_lt n 3) (n + 1) 4) 1
-
-abbrev pub last_four : ℕ → List ℕ → Option ℕ
-last_four n es = cond (n == 4) (least ltb es) None
+-- A reading follows on a run.
+abbrev pub extends : Run → Judgement → Bool
+extends u j = j.tick == u.tick + 1 && j.period == u.period

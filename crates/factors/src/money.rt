@@ -1,43 +1,39 @@
 // Money in pence, with halves rounded up.
-ghost use Rattle.std.specs.Prelude.{◌≡◌, ◌*◌, ◌≤◌, pos, ◌*ℤ◌, unsigned_abs};
+ghost use Rattle.std.specs.Prelude.{◌≡◌, ◌≤◌, pos, ◌*ℤ◌, unsigned_abs};
 ghost use Rattle.factors.specs.Factors.{lowest};
-ghost use Rattle.factors.specs.Money.{nearest, half_hour, earning, earns, earned, paid, come_to, told};
+ghost use Rattle.factors.specs.Money.{nearest, earning, earns, earned, come_to, told};
 
 use crate::factors::WHOLE;
 use crate::settlement::{ByFactor, PeriodFigures, Settlement};
-use rules::{Contract, Held, PERIODS, Terms};
-
-// The product, of numbers small enough that it fits.
-fn times(n: i64, by: u64) -> i64
-    requires { (unsigned_abs n ≤ 100000000) × (by ≤ 1000000) }
-    ensures value { result ≡ n *ℤ pos by }
-    ensures bound { unsigned_abs result ≤ 100000000000000 }
-{
-    n * by as i64
-}
+use rules::{Contract, PERIODS, Terms};
 
 // The whole number nearest to n ÷ d, halves up.
 fn nearest(n: i64, d: u64) -> i64
-    requires { (unsigned_abs n ≤ 100000000000000) × ((1 ≤ d) × (d ≤ 1000000)) }
+    requires small { unsigned_abs n ≤ 100000000000000 }
+    requires divisor { (1 ≤ d) × (d ≤ 1000000) }
     ensures { result ≡ nearest n d }
 {
     (n + n + d as i64).div_euclid(2 * d as i64)
 }
 
-// Price × MW ÷ 2.
-fn half_hour(held: &Held) -> i64
-    requires { (unsigned_abs held.now.price ≤ 100000000) × (held.now.quantity ≤ 1000000) }
-    ensures { result ≡ half_hour held.now }
+// The whole number nearest to n × by ÷ d, halves up, of numbers small enough that their product fits.
+#[tactic(auto, using(crate::proofs::MoneyFacts::product_small))]
+fn scaled(n: i64, by: u64, d: u64) -> i64
+    requires small { unsigned_abs n ≤ 100000000 }
+    requires few { by ≤ 1000000 }
+    requires divisor { (1 ≤ d) × (d ≤ 1000000) }
+    ensures { result ≡ nearest (n *ℤ pos by) d }
 {
-    nearest(times(held.price, held.quantity), 2)
+    nearest(n * by as i64, d)
 }
 
-// What a payable period, of half an hour, earns.
-pub(crate) fn earning(terms: &Terms, contract: Contract) -> i64
+// What a payable period, of half an hour, earns: price × MW ÷ 2.
+fn earning(terms: &Terms, contract: Contract) -> i64
     ensures value { result ≡ earning terms.now contract }
     ensures bound { unsigned_abs result ≤ 5000000 }
 {
-    half_hour(&terms.of(contract))
+    let held = terms.of(contract);
+    scaled(held.price, held.quantity, 2)
 }
 
 impl PeriodFigures {
@@ -65,31 +61,24 @@ fn earned(each: i64, periods: &[PeriodFigures; PERIODS]) -> i64
 fn lowest(periods: &[PeriodFigures; PERIODS]) -> u64
     ensures { result ≡ lowest periods.now }
 {
-    match rules::least::<PeriodFigures, ByFactor>(periods) {
-        None => WHOLE,
-        Some(figures) => figures.factor,
-    }
+    rules::least::<PeriodFigures, ByFactor>(periods).map_or(WHOLE, |figures| figures.factor)
 }
 
-// The sum × the block factor ÷ 1,000,000.
-fn paid(sum: i64, factor: u64) -> i64
-    requires { (unsigned_abs sum ≤ 100000000) × (factor ≤ 1000000) }
-    ensures { result ≡ paid sum factor }
+// What a contract comes to, from the figures of its periods.
+pub(crate) fn come_to(
+    terms: &Terms,
+    contract: Contract,
+    periods: [PeriodFigures; PERIODS],
+) -> Settlement
+    requires { lowest periods ≤ 1000000 }
+    ensures { told result ≡ come_to (earning terms.now contract) periods }
 {
-    nearest(times(sum, factor), 1_000_000)
-}
-
-// What periods with these figures come to, where each payable one earns the same.
-pub(crate) fn come_to(each: i64, periods: &[PeriodFigures; PERIODS]) -> Settlement
-    requires { (unsigned_abs each ≤ 5000000) × (lowest periods.now ≤ 1000000) }
-    ensures { told result ≡ come_to each periods.now }
-{
-    let sum = earned(each, periods);
-    let factor = lowest(periods);
+    let sum = earned(earning(terms, contract), &periods);
+    let factor = lowest(&periods);
     Settlement {
-        periods: *periods,
+        periods,
         sum,
         factor,
-        payment: paid(sum, factor),
+        payment: scaled(sum, factor, WHOLE),
     }
 }

@@ -1,65 +1,61 @@
 // The rolling error of one contract: the least of a reading's error and the three before it. It exists where all four are
 // judged, on successive ticks, in one period.
-ghost use Rattle.std.specs.Prelude.{◌≡◌, ◌+◌, List, [], ◌∷◌, ◌==◌};
+ghost use Rattle.std.specs.Prelude.{◌≡◌, cond, List, [], ◌∷◌};
 ghost use Rattle.factors.specs.declared.judgement.Judgement.{Judgement as Judged};
-ghost use Rattle.factors.specs.Rolling.{Runs, rolling, extends, longer, last_four};
+ghost use Rattle.factors.specs.Rolling.{Runs, rolling, joins, run, least_of_four, extends, leading, errors};
 
 use crate::judgement::Judgement;
 use rules::Rising;
 
-// The errors of the newest readings, newest first, of which `count` belong to a run of judged readings on successive ticks
-// in one period; and the tick and the period of the newest of them.
+// The tick and the period of the newest reading of a run of judged readings on successive ticks in one period; its error, and
+// those of the three before it, newest first: none from where the run began.
 #[derive(Clone, Copy)]
-pub struct Rolling {
-    errors: [u64; 4],
-    count: usize,
+struct Run {
     tick: u64,
     period: u64,
+    error: u64,
+    before: [Option<u64>; 3],
 }
 
-// Whether a tick comes right after another.
-fn comes_next(before: u64, tick: u64) -> bool
-    ensures { result ≡ (tick == before + 1) }
-{
-    before < tick && tick - before == 1
+// The run that the newest reading belongs to, if it is judged.
+#[derive(Clone, Copy)]
+pub struct Rolling {
+    run: Option<Run>,
+}
+
+impl Run {
+    // Whether the reading follows on the newest of the run: on the next tick, in the same period.
+    fn extends(&self, j: &Judgement) -> bool
+        ensures { result ≡ extends self.now j.now }
+    {
+        j.tick.checked_sub(self.tick) == Some(1) && j.period == self.period
+    }
+
+    // The least of the newest four errors, where the run has four.
+    fn least_of_four(&self) -> Option<u64>
+        ensures { result ≡ least_of_four (errors self.now) }
+    {
+        let [Some(second), Some(third), Some(fourth)] = self.before else {
+            return None;
+        };
+        rules::least::<u64, Rising>(&[self.error, second, third, fourth])
+    }
 }
 
 impl Rolling {
     pub fn new() -> Rolling
         ensures { Runs result [] }
     {
-        Rolling {
-            errors: [0; 4],
-            count: 0,
-            tick: 0,
-            period: 0,
-        }
+        Rolling { run: None }
     }
 
-    // Whether the reading follows on the newest of the run: on the next tick, in the same period.
-    fn extends(&self, j: &Judgement) -> bool
-        ensures { result ≡ extends self.now j.now }
+    // The errors of the three readings before this one, newest first, as far as they are of one run with it.
+    fn errors_before(&self, j: &Judgement) -> [Option<u64>; 3]
+        ensures { (js : List Judged) → Runs self.now js → leading result ≡ cond (joins j.now js) (run 3 js) [] }
     {
-        (self.count > 0) & (comes_next(self.tick, j.tick) & (j.period == self.period))
-    }
-
-    // The length of the run with one more reading, of which four are kept.
-    fn longer(&self, follows: bool) -> usize
-        ensures { result ≡ longer follows self.now.count }
-    {
-        if !follows {
-            return 1;
-        }
-        if self.count < 3 { self.count + 1 } else { 4 }
-    }
-
-    fn last_four(&self) -> Option<u64>
-        ensures { result ≡ last_four self.now.count self.now.errors }
-    {
-        if self.count == 4 {
-            rules::least::<u64, Rising>(&self.errors)
-        } else {
-            None
+        match self.run {
+            Some(run) if run.extends(j) => [Some(run.error), run.before[0], run.before[1]],
+            _ => [None; 3],
         }
     }
 
@@ -69,17 +65,16 @@ impl Rolling {
         ensures { (js : List Judged) → Runs self.old js → Runs self.new (j.now ∷ js) × (result ≡ rolling (j.now ∷ js)) }
     {
         let Some(error) = j.error else {
-            self.count = 0;
+            self.run = None;
             return None;
         };
-        let count = self.longer(self.extends(j));
-        let errors = [error, self.errors[0], self.errors[1], self.errors[2]];
-        *self = Rolling {
-            errors,
-            count,
+        let run = Run {
             tick: j.tick,
             period: j.period,
+            error,
+            before: self.errors_before(j),
         };
-        self.last_four()
+        self.run = Some(run);
+        run.least_of_four()
     }
 }

@@ -28,7 +28,7 @@ pub struct Settlement {
     pub payment: i64,
 }
 
-// The period with the lower factor comes before.
+// The period with the lower factor comes before. (By a rule of the project, and no derive: periods are not ordered by all they say.)
 #[derive(Clone, Copy)]
 pub struct ByFactor;
 

@@ -27,7 +27,8 @@ impl Tally {
         }
     }
 
-    // Lends the record of the reading's period; a period past the last has none.
+    // Lends the record of the reading's period; a period past the last has none. (`get_mut` was tried: of the records the checker
+    // then knows only how many there are.)
     fn note(&mut self, j: &Judgement, rolling: Option<u64>)
         ensures same { self.new.rolling ≡ self.old.rolling }
         ensures records { self.new.records ≡ with_reading self.old.records j.now rolling }
@@ -38,6 +39,7 @@ impl Tally {
     }
 
     // Takes in a reading, which alters only the record of its own period.
+    #[tactic(auto, using(crate::proofs::TallyFacts::taken_in))]
     pub fn take_in(&mut self, j: &Judgement)
         ensures own { (o : Optional ℕ) × (self.new.records ≡ with_reading self.old.records j.now o) }
         ensures tallied { (js : List Judged) → length js < most_readings → Tallied self.old js → Tallied self.new (j.now ∷ js) }

@@ -3,7 +3,8 @@ ghost use Rattle.std.specs.Prelude.{◌≡◌};
 ghost use Rattle.factors.specs.Worst.{worse, unerring};
 
 // The largest rolling error, in millionths of the contracted quantity, and the first tick that reached it; 0 and no tick
-// where there is none above 0.
+// where there is none above 0. An Option of both would be no plainer: E is a number in the rules, 0 too, and the factor and who
+// prints it would each turn None back to 0.
 #[derive(Clone, Copy)]
 pub struct Worst {
     pub error: u64,

@@ -1,7 +1,8 @@
-// Terms and readings that the cases hand in.
-use account::{Account, Entry};
+// Terms and readings that the cases hand in. The columns of a row have no names, so that a table's rows stay on a line each; the
+// comment above a type names them. No derive of the library writes a `Display` that is not an error's.
+use account::{Account, Answer, Entry};
 use curve::Curve;
-use rules::{Offer, Reading, Terms, TermsInput, check_terms};
+use rules::{Offer, Reading, SampleFault, Terms, TermsInput, check_terms};
 use std::alloc::{AllocError, Global};
 use std::{fmt, io};
 
@@ -14,41 +15,64 @@ pub const FIFTY: Contracted = (50, 1_701);
 
 pub const THIRTY: Contracted = (30, 1_000);
 
-pub fn offer(contracted: Contracted) -> Offer {
-    Offer {
-        quantity: contracted.0,
-        price: contracted.1,
+fn offer((quantity, price): Contracted) -> Offer {
+    Offer { quantity, price }
+}
+
+// Terms: L, S, A, B, the low contract and the high contract.
+#[derive(Clone, Copy)]
+pub struct Input(
+    pub i64,
+    pub i64,
+    pub i64,
+    pub i64,
+    pub Contracted,
+    pub Contracted,
+);
+
+impl From<Input> for TermsInput {
+    fn from(input: Input) -> TermsInput {
+        let Input(ticks, needed, a, b, low, high) = input;
+        TermsInput {
+            ticks,
+            needed,
+            a,
+            b,
+            low: offer(low),
+            high: offer(high),
+        }
+    }
+}
+
+impl fmt::Display for Input {
+    fn fmt<W: fmt::Write>(&self, f: &mut fmt::Formatter<W>) -> fmt::Result {
+        let Input(ticks, needed, a, b, low, high) = *self;
+        write!(
+            f,
+            "L {ticks} S {needed} A {a} B {b} low {low:?} high {high:?}"
+        )
     }
 }
 
 // Terms with the usual tolerances; a period has so many ticks and needs so many readings.
 pub fn usual(ticks: i64, needed: i64, low: Contracted, high: Contracted) -> io::Result<Terms> {
-    let input = TermsInput {
-        ticks,
-        needed,
-        a: 30_000,
-        b: 70_000,
-        low: offer(low),
-        high: offer(high),
-    };
-    match check_terms(&input) {
-        Ok(terms) => Ok(terms),
-        Err(_) => Err(io::Error::from(io::ErrorKind::InvalidInput)),
-    }
+    let input = TermsInput::from(Input(ticks, needed, 30_000, 70_000, low, high));
+    check_terms(&input).map_err(|_| io::Error::from(io::ErrorKind::InvalidInput))
 }
 
 // A reading: its tick, frequency in mHz, power and baseline in kW, and flag.
 #[derive(Clone, Copy)]
 pub struct Row(pub i64, pub i64, pub i64, pub i64, pub i64);
 
-impl Row {
-    pub fn reading(&self) -> Reading {
+impl From<Row> for Reading {
+    fn from(row: Row) -> Reading {
+        let Row(tick, frequency, power, baseline, flag) = row;
         Reading {
-            tick: self.0,
-            frequency: self.1,
-            power: self.2,
-            baseline: self.3,
-            flag: self.4,
+            tick,
+            frequency,
+            power,
+            baseline,
+            flag,
         }
     }
 }
@@ -65,22 +89,46 @@ impl fmt::Display for Row {
 
 // The readings as a batch takes them.
 pub fn entries(heap: Global, rows: &[Row]) -> Result<Vec<Entry>, AllocError> {
-    let mut entries = Vec::new(heap);
-    for row in rows {
-        entries.push(Entry::new(row.reading()))?;
-    }
-    Ok(entries)
+    rows.iter()
+        .map(|row| Entry::new(Reading::from(*row)))
+        .collect(heap)
 }
 
-// Hands in like readings, with a baseline of 0, at every tick from the first to the last.
-pub fn steady<C: Curve>(
-    account: &mut Account<C>,
-    ticks: (i64, i64),
-    frequency: i64,
-    power: i64,
-    flag: i64,
-) {
-    for tick in ticks.0..=ticks.1 {
-        let _ = account.sample(&Row(tick, frequency, power, 0, flag).reading());
+// Like readings at every tick from a first to a last, both given: the frequency in mHz, the power and the baseline in kW, and
+// the flag. (The ticks are a pair and no range, as a range of the library is not `Copy`.)
+#[derive(Clone, Copy)]
+pub struct Stretch(pub (i64, i64), pub i64, pub i64, pub i64, pub i64);
+
+impl Stretch {
+    fn at(&self, tick: i64) -> Row {
+        let Stretch(_, frequency, power, baseline, flag) = *self;
+        Row(tick, frequency, power, baseline, flag)
+    }
+
+    // Hands the readings in, and tells what the last of them is answered.
+    pub fn hand_in<C: Curve>(&self, account: &mut Account<C>) -> Result<Answer, SampleFault> {
+        let (first, last) = self.0;
+        for tick in first..last {
+            let _ = account.sample(&Reading::from(self.at(tick)));
+        }
+        account.sample(&Reading::from(self.at(last)))
+    }
+}
+
+impl fmt::Display for Stretch {
+    fn fmt<W: fmt::Write>(&self, f: &mut fmt::Formatter<W>) -> fmt::Result {
+        let (first, last) = self.0;
+        if first < last {
+            write!(f, "from tick {first}, ")?;
+        }
+        let row = self.at(last);
+        write!(f, "{row}")
+    }
+}
+
+// Hands in stretches one after the other, whatever their readings are answered.
+pub fn hand_in<C: Curve>(account: &mut Account<C>, stretches: &[Stretch]) {
+    for stretch in stretches {
+        let _ = stretch.hand_in(account);
     }
 }

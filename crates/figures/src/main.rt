@@ -3,6 +3,7 @@
 
 mod asked;
 mod asymmetric_curve;
+mod cases;
 mod flat_curve;
 mod inputs;
 mod own_curves;
@@ -10,7 +11,6 @@ mod pence;
 mod refused_points;
 mod refused_readings;
 mod refused_terms;
-mod report;
 mod rolling_errors;
 mod runs;
 mod shown;
@@ -24,6 +24,7 @@ use report::Report;
 use std::io;
 
 fn main(rt: HostRuntime) -> io::Result<()> {
+    // One by one: a table of these functions would have a line for each too.
     let mut report = Report::new(rt);
     worked_block::show(&mut report)?;
     single_values::show(&mut report)?;

@@ -1,13 +1,13 @@
 // Accounts on curves of this program's own: 50 MW low at 1,701 pence, 30 MW high at 1,000 pence.
+use crate::asked::money;
 use crate::asymmetric_curve::Asymmetric;
 use crate::flat_curve::Flat;
-use crate::inputs::{FIFTY, THIRTY, usual};
-use crate::report::Report;
-use crate::shown::Answered::Accepted;
-use crate::shown::Money;
+use crate::inputs::{FIFTY, Stretch, THIRTY, usual};
+use crate::shown::{Accepted, Money};
 use crate::steps::{Step, walk};
 use crate::told::{Told, tells};
 use account::Account;
+use report::Report;
 use rules::Contract;
 use std::io;
 
@@ -16,68 +16,36 @@ const FLAT: [Told; 3] = [Told(40_000, 0), Told(50_000, 0), Told(60_000, 0)];
 // Grace lasts two readings; then the bounds come to 0 by the ramp, whatever the frequency.
 const ON_FLAT: [Step; 8] = [
     Step(
-        (0, 0),
-        50_000,
-        0,
-        0,
-        3,
-        Accepted(0, (-1_000, 1_000), Some(0), Some(0)),
+        Stretch((0, 0), 50_000, 0, 0, 3),
+        Ok(Accepted(0, (-1_000, 1_000), Some(0), Some(0))),
     ),
     Step(
-        (1, 1),
-        40_000,
-        50_000,
-        0,
-        3,
-        Accepted(0, (-1_000, 1_000), Some(0), Some(0)),
+        Stretch((1, 1), 40_000, 50_000, 0, 3),
+        Ok(Accepted(0, (-1_000, 1_000), Some(0), Some(0))),
     ),
     Step(
-        (2, 2),
-        40_000,
-        50_000,
-        0,
-        3,
-        Accepted(0, (-750, 750), Some(250_000), Some(0)),
+        Stretch((2, 2), 40_000, 50_000, 0, 3),
+        Ok(Accepted(0, (-750, 750), Some(250_000), Some(0))),
     ),
     Step(
-        (3, 3),
-        60_000,
-        -15_000,
-        0,
-        3,
-        Accepted(0, (-500, 500), Some(0), Some(0)),
+        Stretch((3, 3), 60_000, -15_000, 0, 3),
+        Ok(Accepted(0, (-500, 500), Some(0), Some(0))),
     ),
     Step(
-        (4, 4),
-        60_000,
-        -15_000,
-        0,
-        3,
-        Accepted(0, (-250, 250), Some(0), Some(250_000)),
+        Stretch((4, 4), 60_000, -15_000, 0, 3),
+        Ok(Accepted(0, (-250, 250), Some(0), Some(250_000))),
     ),
     Step(
-        (5, 5),
-        40_000,
-        3_000,
-        0,
-        3,
-        Accepted(0, (0, 0), Some(60_000), Some(0)),
+        Stretch((5, 5), 40_000, 3_000, 0, 3),
+        Ok(Accepted(0, (0, 0), Some(60_000), Some(0))),
     ),
     Step(
-        (6, 8),
-        60_000,
-        3_000,
-        0,
-        3,
-        Accepted(0, (0, 0), Some(60_000), Some(0)),
+        Stretch((6, 8), 60_000, 3_000, 0, 3),
+        Ok(Accepted(0, (0, 0), Some(60_000), Some(0))),
     ),
     Step(
-        (9, 9),
-        50_000,
-        -300,
-        0,
-        3,
-        Accepted(0, (0, 0), Some(0), Some(10_000)),
+        Stretch((9, 9), 50_000, -300, 0, 3),
+        Ok(Accepted(0, (0, 0), Some(0), Some(10_000))),
     ),
 ];
 
@@ -94,140 +62,96 @@ const ASYMMETRIC: [Told; 7] = [
 // Grace lasts one reading, and the window is the reading alone.
 const ON_ASYMMETRIC: [Step; 12] = [
     Step(
-        (0, 0),
-        50_000,
-        0,
-        0,
-        3,
-        Accepted(0, (-1_000, 1_000), Some(0), Some(0)),
+        Stretch((0, 0), 50_000, 0, 0, 3),
+        Ok(Accepted(0, (-1_000, 1_000), Some(0), Some(0))),
     ),
     Step(
-        (1, 1),
-        49_499,
-        50_000,
-        0,
-        3,
-        Accepted(0, (-750, 1_000), Some(0), Some(0)),
+        Stretch((1, 1), 49_499, 50_000, 0, 3),
+        Ok(Accepted(0, (-750, 1_000), Some(0), Some(0))),
     ),
     Step(
-        (2, 2),
-        49_499,
-        50_000,
-        0,
-        3,
-        Accepted(0, (-500, 1_000), Some(0), Some(0)),
+        Stretch((2, 2), 49_499, 50_000, 0, 3),
+        Ok(Accepted(0, (-500, 1_000), Some(0), Some(0))),
     ),
     Step(
-        (3, 3),
-        49_500,
-        50_000,
-        0,
-        3,
-        Accepted(0, (-250, 750), Some(250_000), Some(0)),
+        Stretch((3, 3), 49_500, 50_000, 0, 3),
+        Ok(Accepted(0, (-250, 750), Some(250_000), Some(0))),
     ),
     Step(
-        (4, 4),
-        50_300,
-        0,
-        0,
-        3,
-        Accepted(0, (0, 500), Some(0), Some(0)),
+        Stretch((4, 4), 50_300, 0, 0, 3),
+        Ok(Accepted(0, (0, 500), Some(0), Some(0))),
     ),
     Step(
-        (5, 5),
-        50_301,
-        -15_000,
-        0,
-        3,
-        Accepted(0, (-500, 250), Some(0), Some(0)),
+        Stretch((5, 5), 50_301, -15_000, 0, 3),
+        Ok(Accepted(0, (-500, 250), Some(0), Some(0))),
     ),
     Step(
-        (6, 6),
-        50_301,
-        -15_000,
-        0,
-        3,
-        Accepted(0, (-500, 0), Some(0), Some(0)),
+        Stretch((6, 6), 50_301, -15_000, 0, 3),
+        Ok(Accepted(0, (-500, 0), Some(0), Some(0))),
     ),
     Step(
-        (7, 7),
-        50_301,
-        -15_000,
-        0,
-        3,
-        Accepted(0, (-500, -250), Some(0), Some(0)),
+        Stretch((7, 7), 50_301, -15_000, 0, 3),
+        Ok(Accepted(0, (-500, -250), Some(0), Some(0))),
     ),
     Step(
-        (8, 8),
-        50_301,
-        -15_000,
-        0,
-        3,
-        Accepted(0, (-500, -500), Some(0), Some(0)),
+        Stretch((8, 8), 50_301, -15_000, 0, 3),
+        Ok(Accepted(0, (-500, -500), Some(0), Some(0))),
     ),
     Step(
-        (9, 12),
-        50_301,
-        -13_500,
-        0,
-        3,
-        Accepted(0, (-500, -500), Some(0), Some(50_000)),
+        Stretch((9, 12), 50_301, -13_500, 0, 3),
+        Ok(Accepted(0, (-500, -500), Some(0), Some(50_000))),
     ),
     Step(
-        (13, 13),
-        40_000,
-        -13_500,
-        0,
-        3,
-        Accepted(0, (-250, 1_000), Some(0), Some(200_000)),
+        Stretch((13, 13), 40_000, -13_500, 0, 3),
+        Ok(Accepted(0, (-250, 1_000), Some(0), Some(200_000))),
     ),
     Step(
-        (14, 14),
-        60_000,
-        50_000,
-        0,
-        3,
-        Accepted(0, (-500, 750), Some(250_000), Some(0)),
+        Stretch((14, 14), 60_000, 50_000, 0, 3),
+        Ok(Accepted(0, (-500, 750), Some(250_000), Some(0))),
     ),
 ];
 
-fn on_flat(report: &mut Report) -> io::Result<()> {
+fn on_flat(report: &mut Report<impl Print>) -> io::Result<()> {
     report.title("A curve that calls for no response: full 1000, ramp 250, lag 1")?;
     tells(report, &Flat, &FLAT)?;
     let mut account = Account::open(usual(20, 1, FIFTY, THIRTY)?, Flat);
     walk(report, &mut account, &ON_FLAT)?;
     let block = account.close();
-    report.compare(
-        "low",
-        Money::of(&block, Contract::Low),
+    money(
+        report,
+        &block,
+        Contract::Low,
         Money(42_525, 250_000, 10_631),
     )?;
-    report.compare(
-        "high",
-        Money::of(&block, Contract::High),
+    money(
+        report,
+        &block,
+        Contract::High,
         Money(15_000, 1_000_000, 15_000),
     )
 }
 
-fn on_asymmetric(report: &mut Report) -> io::Result<()> {
+fn on_asymmetric(report: &mut Report<impl Print>) -> io::Result<()> {
     report.title("A curve that is not symmetric: full 1000, ramp 250, lag 0")?;
     tells(report, &Asymmetric, &ASYMMETRIC)?;
     let mut account = Account::open(usual(20, 1, FIFTY, THIRTY)?, Asymmetric);
     walk(report, &mut account, &ON_ASYMMETRIC)?;
     let block = account.close();
-    report.compare(
-        "low",
-        Money::of(&block, Contract::Low),
+    money(
+        report,
+        &block,
+        Contract::Low,
         Money(42_525, 1_000_000, 42_525),
     )?;
-    report.compare(
-        "high",
-        Money::of(&block, Contract::High),
+    money(
+        report,
+        &block,
+        Contract::High,
         Money(15_000, 500_000, 7_500),
     )
 }
 
-pub fn show(report: &mut Report) -> io::Result<()> {
+pub fn show(report: &mut Report<impl Print>) -> io::Result<()> {
     on_flat(report)?;
     on_asymmetric(report)
 }

@@ -1,37 +1,37 @@
 // Earnings, sums and payments in whole pence, halves rounded up.
-use crate::inputs::{NOT_HELD, Row, steady, usual};
-use crate::report::Report;
+use crate::inputs::{Contracted, NOT_HELD, Row, Stretch, hand_in, usual};
 use crate::shown::Money;
 use account::{Account, ClosedBlock};
 use curve::Containment;
-use rules::Contract;
+use report::Report;
+use rules::{Contract, Reading};
 use std::io;
 
-// A low contract's quantity in MW and price in pence, a power in kW, and what one period comes to in which four readings, all
-// in grace, have that power.
+// What is contracted low, a power in kW, and what one period comes to in which four readings, all in grace, have that power.
 #[derive(Clone, Copy)]
-struct Case(i64, i64, i64, Money);
+struct Case(Contracted, i64, Money);
 
 const CASES: [Case; 8] = [
-    Case(51, 1_701, 0, Money(43_376, 1_000_000, 43_376)),
-    Case(50, 1_701, 52_500, Money(42_525, 500_000, 21_263)),
-    Case(1, 0, 0, Money(0, 1_000_000, 0)),
-    Case(1, 1, 0, Money(1, 1_000_000, 1)),
-    Case(1, 1, 1_050, Money(1, 500_000, 1)),
-    Case(1, 1, 1_051, Money(1, 475_000, 0)),
-    Case(1, 99_999, 0, Money(50_000, 1_000_000, 50_000)),
-    Case(100, 99_999, 0, Money(4_999_950, 1_000_000, 4_999_950)),
+    Case((51, 1_701), 0, Money(43_376, 1_000_000, 43_376)),
+    Case((50, 1_701), 52_500, Money(42_525, 500_000, 21_263)),
+    Case((1, 0), 0, Money(0, 1_000_000, 0)),
+    Case((1, 1), 0, Money(1, 1_000_000, 1)),
+    Case((1, 1), 1_050, Money(1, 500_000, 1)),
+    Case((1, 1), 1_051, Money(1, 475_000, 0)),
+    Case((1, 99_999), 0, Money(50_000, 1_000_000, 50_000)),
+    Case((100, 99_999), 0, Money(4_999_950, 1_000_000, 4_999_950)),
 ];
 
-fn one_period(quantity: i64, price: i64, power: i64) -> io::Result<Money> {
-    let mut account = Account::open(usual(20, 1, (quantity, price), NOT_HELD)?, Containment);
-    steady(&mut account, (0, 3), 50_000, power, 1);
+fn one_period(low: Contracted, power: i64) -> io::Result<Money> {
+    let mut account = Account::open(usual(20, 1, low, NOT_HELD)?, Containment);
+    hand_in(&mut account, &[Stretch((0, 3), 50_000, power, 0, 1)]);
     Ok(Money::of(&account.close(), Contract::Low))
 }
 
-fn table(report: &mut Report) -> io::Result<()> {
-    for Case(quantity, price, power, should_be) in CASES {
-        let money = one_period(quantity, price, power)?;
+fn table(report: &mut Report<impl Print>) -> io::Result<()> {
+    for Case(low, power, should_be) in CASES {
+        let money = one_period(low, power)?;
+        let (quantity, price) = low;
         report.compare(
             format_args!("{quantity} MW at {price} pence, {power} kW"),
             money,
@@ -45,12 +45,12 @@ fn table(report: &mut Report) -> io::Result<()> {
 fn eight_periods() -> io::Result<ClosedBlock<Containment>> {
     let mut account = Account::open(usual(16, 1, (100, 99_999), (100, 99_999))?, Containment);
     for tick in [0, 16, 32, 48, 64, 80, 96, 112] {
-        let _ = account.sample(&Row(tick, 50_000, 0, 0, 3).reading());
+        let _ = account.sample(&Reading::from(Row(tick, 50_000, 0, 0, 3)));
     }
     Ok(account.close())
 }
 
-pub fn show(report: &mut Report) -> io::Result<()> {
+pub fn show(report: &mut Report<impl Print>) -> io::Result<()> {
     report.title("Halves of a penny, and the greatest sum")?;
     table(report)?;
     let block = eight_periods()?;

@@ -1,28 +1,25 @@
 // Where rolling errors start again, and which tick E goes with.
-use crate::asked::Asked;
-use crate::inputs::{FIFTY, NOT_HELD, steady, usual};
-use crate::report::Report;
-use crate::shown::Recorded;
-use crate::shown::Recorded::Record;
+use crate::asked::{Asked, record};
+use crate::inputs::{FIFTY, NOT_HELD, Stretch, hand_in, usual};
+use crate::shown::Record;
 use account::Account;
 use curve::Containment;
+use either::Either;
+use report::Report;
 use rules::{Contract, Terms};
 use std::io;
 
-// Like readings at 50,000 mHz at every tick from a first to a last, with a power in kW and a flag. All are in grace, where
-// the upper bound is 50,000 kW: 52,500 kW err by 50,000 millionths, 53,000 kW by 60,000 and 53,500 kW by 70,000.
-#[derive(Clone, Copy)]
-struct Stretch((i64, i64), i64, i64);
+// All readings are in grace, where the upper bound is 50,000 kW: 52,500 kW err by 50,000 millionths, 53,000 kW by 60,000 and
+// 53,500 kW by 70,000.
+const THREE: Stretch = Stretch((0, 2), 50_000, 52_500, 0, 1);
 
-const THREE: Stretch = Stretch((0, 2), 52_500, 1);
+const FOUR: Stretch = Stretch((0, 3), 50_000, 52_500, 0, 1);
 
-const FOUR: Stretch = Stretch((0, 3), 52_500, 1);
+const NOT_AVAILABLE: Stretch = Stretch((3, 3), 50_000, 52_500, 0, 0);
 
-const NOT_AVAILABLE: Stretch = Stretch((3, 3), 52_500, 0);
+const THREE_MORE: Stretch = Stretch((4, 6), 50_000, 52_500, 0, 1);
 
-const THREE_MORE: Stretch = Stretch((4, 6), 52_500, 1);
-
-const FOUR_MORE: Stretch = Stretch((4, 7), 52_500, 1);
+const FOUR_MORE: Stretch = Stretch((4, 7), 50_000, 52_500, 0, 1);
 
 // The stretches, and the low record that is asked for then.
 #[derive(Clone, Copy)]
@@ -32,111 +29,115 @@ const RESTARTS: [Case; 9] = [
     Case(
         "three",
         &[THREE],
-        Asked(0, Record(0, 3, true, 0, None, 1_000_000)),
+        Asked(0, Ok(Record(0, 3, true, 0, None, 1_000_000))),
     ),
     Case(
         "four",
         &[FOUR],
-        Asked(0, Record(0, 4, true, 50_000, Some(3), 500_000)),
+        Asked(0, Ok(Record(0, 4, true, 50_000, Some(3), 500_000))),
     ),
     Case(
         "three, a gap, three",
         &[THREE, THREE_MORE],
-        Asked(0, Record(0, 6, true, 0, None, 1_000_000)),
+        Asked(0, Ok(Record(0, 6, true, 0, None, 1_000_000))),
     ),
     Case(
         "three, a gap, four",
         &[THREE, FOUR_MORE],
-        Asked(0, Record(0, 7, true, 50_000, Some(7), 500_000)),
+        Asked(0, Ok(Record(0, 7, true, 50_000, Some(7), 500_000))),
     ),
     Case(
         "three, one not available, three",
         &[THREE, NOT_AVAILABLE, THREE_MORE],
-        Asked(0, Record(0, 7, false, 0, None, 1_000_000)),
+        Asked(0, Ok(Record(0, 7, false, 0, None, 1_000_000))),
     ),
     Case(
         "three, one not available, four",
         &[THREE, NOT_AVAILABLE, FOUR_MORE],
-        Asked(0, Record(0, 8, false, 50_000, Some(7), 500_000)),
+        Asked(0, Ok(Record(0, 8, false, 50_000, Some(7), 500_000))),
     ),
     Case(
         "three before a period's edge, four after it",
         &[ACROSS],
-        Asked(0, Record(0, 3, true, 0, None, 1_000_000)),
+        Asked(0, Ok(Record(0, 3, true, 0, None, 1_000_000))),
     ),
     Case(
         "three before a period's edge, four after it",
         &[ACROSS],
-        Asked(1, Record(1, 4, true, 50_000, Some(23), 500_000)),
+        Asked(1, Ok(Record(1, 4, true, 50_000, Some(23), 500_000))),
     ),
     Case(
         "three before a period's edge, three after it",
         &[ACROSS_SHORT],
-        Asked(1, Record(1, 3, true, 0, None, 1_000_000)),
+        Asked(1, Ok(Record(1, 3, true, 0, None, 1_000_000))),
     ),
 ];
 
-const ACROSS: Stretch = Stretch((17, 23), 52_500, 1);
+const ACROSS: Stretch = Stretch((17, 23), 50_000, 52_500, 0, 1);
 
-const ACROSS_SHORT: Stretch = Stretch((17, 22), 52_500, 1);
+const ACROSS_SHORT: Stretch = Stretch((17, 22), 50_000, 52_500, 0, 1);
 
 const FIRST_TICKS: [Case; 5] = [
     Case(
         "70000, 50000, 70000, 70000",
         &UNEQUAL,
-        Asked(0, Record(0, 4, true, 50_000, Some(3), 500_000)),
+        Asked(0, Ok(Record(0, 4, true, 50_000, Some(3), 500_000))),
     ),
     Case(
         "six times 50000",
-        &[Stretch((0, 5), 52_500, 1)],
-        Asked(0, Record(0, 6, true, 50_000, Some(3), 500_000)),
+        &[Stretch((0, 5), 50_000, 52_500, 0, 1)],
+        Asked(0, Ok(Record(0, 6, true, 50_000, Some(3), 500_000))),
     ),
     Case(
         "four times 50000, once 0, four times 50000",
         &EQUAL_LATER,
-        Asked(0, Record(0, 9, true, 50_000, Some(3), 500_000)),
+        Asked(0, Ok(Record(0, 9, true, 50_000, Some(3), 500_000))),
     ),
     Case(
         "four times 50000, six times 60000",
         &LARGER_LATER,
-        Asked(0, Record(0, 10, true, 60_000, Some(7), 250_000)),
+        Asked(0, Ok(Record(0, 10, true, 60_000, Some(7), 250_000))),
     ),
     Case(
         "four times 60000, six times 50000",
         &SMALLER_LATER,
-        Asked(0, Record(0, 10, true, 60_000, Some(3), 250_000)),
+        Asked(0, Ok(Record(0, 10, true, 60_000, Some(3), 250_000))),
     ),
 ];
 
 const UNEQUAL: [Stretch; 3] = [
-    Stretch((0, 0), 53_500, 1),
-    Stretch((1, 1), 52_500, 1),
-    Stretch((2, 3), 53_500, 1),
+    Stretch((0, 0), 50_000, 53_500, 0, 1),
+    Stretch((1, 1), 50_000, 52_500, 0, 1),
+    Stretch((2, 3), 50_000, 53_500, 0, 1),
 ];
 
-const EQUAL_LATER: [Stretch; 3] = [FOUR, Stretch((4, 4), 0, 1), Stretch((5, 8), 52_500, 1)];
+const EQUAL_LATER: [Stretch; 3] = [
+    FOUR,
+    Stretch((4, 4), 50_000, 0, 0, 1),
+    Stretch((5, 8), 50_000, 52_500, 0, 1),
+];
 
-const LARGER_LATER: [Stretch; 2] = [FOUR, Stretch((4, 9), 53_000, 1)];
+const LARGER_LATER: [Stretch; 2] = [FOUR, Stretch((4, 9), 50_000, 53_000, 0, 1)];
 
-const SMALLER_LATER: [Stretch; 2] = [Stretch((0, 3), 53_000, 1), Stretch((4, 9), 52_500, 1)];
+const SMALLER_LATER: [Stretch; 2] = [
+    Stretch((0, 3), 50_000, 53_000, 0, 1),
+    Stretch((4, 9), 50_000, 52_500, 0, 1),
+];
 
-fn record(terms: Terms, stretches: &[Stretch], period: i64) -> Recorded {
-    let mut account = Account::open(terms, Containment);
-    for Stretch(ticks, power, flag) in stretches {
-        steady(&mut account, *ticks, 50_000, *power, *flag);
-    }
-    Recorded::of(&account.close(), Contract::Low, period)
-}
-
-fn table(report: &mut Report, terms: Terms, cases: &[Case]) -> io::Result<()> {
-    for case in cases {
-        let Case(name, stretches, Asked(period, should_be)) = *case;
-        report.compare(name, record(terms, stretches, period), should_be)?;
+fn table(report: &mut Report<impl Print>, terms: Terms, cases: &[Case]) -> io::Result<()> {
+    for Case(name, stretches, Asked(period, should_be)) in cases {
+        let mut account = Account::open(terms, Containment);
+        hand_in(&mut account, stretches);
+        report.compare(
+            *name,
+            Either::from(record(&account.close(), Contract::Low, *period)),
+            Either::from(*should_be),
+        )?;
     }
     Ok(())
 }
 
-pub fn show(report: &mut Report) -> io::Result<()> {
+pub fn show(report: &mut Report<impl Print>) -> io::Result<()> {
     let terms = usual(20, 1, FIFTY, NOT_HELD)?;
     report.title("Erring readings: where the rolling error starts again")?;
     table(report, terms, &RESTARTS)?;

@@ -1,95 +1,102 @@
-// How answers, records and money are written, shown and compared.
-use account::{Answer, ClosedBlock};
+// How answers, records and money are written, shown and compared. Each `Display` but an error's is written by hand: no derive of
+// the library writes one. The columns of a row have no names, so that a table's rows stay short; the comment above a type names
+// them.
+use account::{Answer, ClosedBlock, PeriodFault};
+use either::{Either, Left, Right};
+use factors::PeriodFigures;
 use rules::{Contract, SampleFault};
 use std::fmt;
+use thiserror::Error;
 
-// A number that there may not be.
-#[derive(Drop)]
-struct OrNone(Option<u64>);
-
-impl fmt::Display for OrNone {
-    fn fmt<W: fmt::Write>(&self, f: &mut fmt::Formatter<W>) -> fmt::Result {
-        match self.0 {
-            Some(number) => write!(f, "{number}"),
-            None => write!(f, "none"),
-        }
+// What there is, or what is written where there is nothing.
+pub fn or<T, D: Drop>(value: Option<T>, none: D) -> Either<T, D> {
+    match value {
+        Some(value) => Left(value),
+        None => Right(none),
     }
 }
 
-// What became of a reading: its period, its bounds in parts with the lower first, its low error and its high error; or the
-// number of its refusal.
+// What is told of a contract goes by this name.
+pub fn name(contract: Contract) -> &'static str {
+    match contract {
+        Contract::Low => "low",
+        Contract::High => "high",
+    }
+}
+
+// A refusal, by its number.
+#[derive(Clone, Copy, PartialEq, Eq, Debug, Error)]
+#[error("refused {0}")]
+pub struct Refused(pub u32);
+
+impl From<SampleFault> for Refused {
+    fn from(fault: SampleFault) -> Refused {
+        Refused(fault.number())
+    }
+}
+
+impl From<PeriodFault> for Refused {
+    fn from(fault: PeriodFault) -> Refused {
+        Refused(fault.number())
+    }
+}
+
+// What an accepted reading is answered: its period, its bounds in parts with the lower first, its low error and its high
+// error.
 #[derive(Clone, Copy, PartialEq, Eq)]
-pub enum Answered {
-    Accepted(u64, (i64, i64), Option<u64>, Option<u64>),
-    Refused(u32),
-}
+pub struct Accepted(pub u64, pub (i64, i64), pub Option<u64>, pub Option<u64>);
 
-impl Answered {
-    pub fn of(res: Result<Answer, SampleFault>) -> Answered {
-        match res {
-            Ok(answer) => Answered::Accepted(answer.period, answer.bounds, answer.low, answer.high),
-            Err(fault) => Answered::Refused(fault.number()),
-        }
+impl From<Answer> for Accepted {
+    fn from(answer: Answer) -> Accepted {
+        Accepted(answer.period, answer.bounds, answer.low, answer.high)
     }
 }
 
-impl fmt::Display for Answered {
+impl fmt::Display for Accepted {
     fn fmt<W: fmt::Write>(&self, f: &mut fmt::Formatter<W>) -> fmt::Result {
-        match *self {
-            Answered::Accepted(period, (lower, upper), low, high) => {
-                let low = OrNone(low);
-                let high = OrNone(high);
-                write!(
-                    f,
-                    "period {period}, bounds ({lower}, {upper}), low error {low}, high error {high}"
-                )
-            }
-            Answered::Refused(number) => write!(f, "refused {number}"),
-        }
+        let Accepted(period, (lower, upper), low, high) = *self;
+        let low = or(low, "none");
+        let high = or(high, "none");
+        write!(
+            f,
+            "period {period}, bounds ({lower}, {upper}), low error {low}, high error {high}"
+        )
     }
 }
 
-// The record of a period: the period, its readings, whether it is payable, E, the first tick that reached it and the factor;
-// or the number of a refusal.
+// The record of a period: the period, its readings, whether it is payable, E, the first tick that reached it and the factor.
 #[derive(Clone, Copy, PartialEq, Eq)]
-pub enum Recorded {
-    Record(u64, u64, bool, u64, Option<u64>, u64),
-    NoRecord(u32),
-}
+pub struct Record(
+    pub u64,
+    pub u64,
+    pub bool,
+    pub u64,
+    pub Option<u64>,
+    pub u64,
+);
 
-impl Recorded {
-    // What a closed block tells of a contract and a period.
-    pub fn of<C>(block: &ClosedBlock<C>, contract: Contract, period: i64) -> Recorded {
-        match block.period_record(contract, period) {
-            Ok(record) => {
-                let worst = record.worst;
-                Recorded::Record(
-                    record.period,
-                    record.readings,
-                    record.payable,
-                    worst.error,
-                    worst.tick,
-                    record.factor,
-                )
-            }
-            Err(fault) => Recorded::NoRecord(fault.number()),
-        }
+impl From<PeriodFigures> for Record {
+    fn from(record: PeriodFigures) -> Record {
+        Record(
+            record.period,
+            record.readings,
+            record.payable,
+            record.worst.error,
+            record.worst.tick,
+            record.factor,
+        )
     }
 }
 
-impl fmt::Display for Recorded {
+impl fmt::Display for Record {
     fn fmt<W: fmt::Write>(&self, f: &mut fmt::Formatter<W>) -> fmt::Result {
-        match *self {
-            Recorded::Record(period, readings, payable, error, tick, factor) => {
-                let payable = if payable { 1 } else { 0 };
-                let tick = OrNone(tick);
-                write!(
-                    f,
-                    "period {period}, readings {readings}, payable {payable}, E {error}, first tick {tick}, factor {factor}"
-                )
-            }
-            Recorded::NoRecord(number) => write!(f, "refused {number}"),
-        }
+        let Record(period, readings, payable, error, tick, factor) = *self;
+        let payable = u8::from(payable);
+        let tick = or(tick, "none");
+        write!(
+            f,
+            "period {period}, readings {readings}, payable {payable}, E {error}, first tick {tick}, factor {factor}"
+        )
     }
 }
 

@@ -1,12 +1,12 @@
 // Single values of the rules: curves, period factors and an earning.
 use crate::asked::{Asked, records};
-use crate::inputs::{Contracted, FIFTY, NOT_HELD, steady, usual};
-use crate::report::Report;
-use crate::shown::Recorded::Record;
+use crate::inputs::{Contracted, FIFTY, NOT_HELD, Stretch, hand_in, usual};
+use crate::shown::Record;
 use crate::told::{Told, tells};
 use account::Account;
 use curve::{AnyCurve, Containment, Points, Sided, Sides};
 use factors::factor;
+use report::Report;
 use rules::{Contract, Terms};
 use std::io;
 
@@ -24,7 +24,7 @@ const LOW_SIDE: [Told; 3] = [Told(49_800, 11_100), Told(50_000, 0), Told(50_200,
 
 const HIGH_SIDE: [Told; 3] = [Told(49_800, 0), Told(50_000, 0), Told(50_200, -11_100)];
 
-fn curves(report: &mut Report) -> io::Result<()> {
+fn curves(report: &mut Report<impl Print>) -> io::Result<()> {
     report.title("Containment")?;
     tells(report, &Containment, &CONTAINMENT)?;
     report.title("Containment for those who hold low only")?;
@@ -49,7 +49,8 @@ fn curves(report: &mut Report) -> io::Result<()> {
     tells(report, &AnyCurve::Points(Points::new()), &CONTAINMENT)
 }
 
-// An error E and its factor; and a frequency in mHz and a power in kW that, held, make E for a low contract of 50 MW.
+// A row, whose columns have no names so that it stays on a line: an error E and its factor; and a frequency in mHz and a power
+// in kW that, held, make E for a low contract of 50 MW.
 #[derive(Clone, Copy)]
 struct Factored(u64, u64, i64, i64);
 
@@ -61,7 +62,7 @@ const FACTORS: [Factored; 4] = [
 ];
 
 // In period 1, from tick 20 on, both bounds are those of the curve.
-fn period_factor(report: &mut Report, terms: Terms, row: Factored) -> io::Result<()> {
+fn period_factor(report: &mut Report<impl Print>, terms: Terms, row: Factored) -> io::Result<()> {
     let Factored(error, should_be, frequency, power) = row;
     report.compare(
         format_args!("factor at E {error}"),
@@ -69,12 +70,12 @@ fn period_factor(report: &mut Report, terms: Terms, row: Factored) -> io::Result
         should_be,
     )?;
     let mut account = Account::open(terms, Containment);
-    steady(&mut account, (0, 23), frequency, power, 1);
-    let record = Asked(1, Record(1, 4, false, error, Some(23), should_be));
+    hand_in(&mut account, &[Stretch((0, 23), frequency, power, 0, 1)]);
+    let record = Asked(1, Ok(Record(1, 4, false, error, Some(23), should_be)));
     records(report, &account.close(), Contract::Low, &[record])
 }
 
-fn period_factors(report: &mut Report) -> io::Result<()> {
+fn period_factors(report: &mut Report<impl Print>) -> io::Result<()> {
     report.title("Period factors with A = 30000 and B = 70000")?;
     let terms = usual(20, 5, FIFTY, NOT_HELD)?;
     for row in FACTORS {
@@ -85,11 +86,11 @@ fn period_factors(report: &mut Report) -> io::Result<()> {
 
 fn earning(contracted: Contracted) -> io::Result<i64> {
     let mut account = Account::open(usual(20, 1, contracted, NOT_HELD)?, Containment);
-    steady(&mut account, (0, 0), 50_000, 0, 1);
+    hand_in(&mut account, &[Stretch((0, 0), 50_000, 0, 0, 1)]);
     Ok(account.close().sum(Contract::Low))
 }
 
-pub fn show(report: &mut Report) -> io::Result<()> {
+pub fn show(report: &mut Report<impl Print>) -> io::Result<()> {
     curves(report)?;
     period_factors(report)?;
     report.title("An earning")?;

@@ -1,14 +1,12 @@
 // The worked block of the rules: low only, 50 MW at 1,701 pence, periods of 20 ticks that need 5 readings.
-use crate::asked::{Asked, records};
-use crate::inputs::{FIFTY, NOT_HELD, Row, entries, usual};
-use crate::report::Report;
-use crate::shown::Answered::Accepted;
-use crate::shown::Money;
-use crate::shown::Recorded::Record;
+use crate::asked::{Asked, money, records};
+use crate::inputs::{FIFTY, NOT_HELD, Row, Stretch, entries, usual};
+use crate::shown::{Accepted, Money, Record};
 use crate::steps::{Step, walk};
 use account::{Account, Call, ClosedBlock, Entry, settle};
 use curve::Containment;
-use rules::Contract;
+use report::Report;
+use rules::{Contract, Reading};
 use std::alloc::{AllocError, Global};
 use std::io;
 
@@ -25,20 +23,12 @@ const LAST: Row = Row(4, 50_000, 52_500, 0, 1);
 // The upper bound is 50,000 kW, which the response at tick 1 exceeds by 2,500 kW.
 const FIRST_TWO: [Step; 2] = [
     Step(
-        (0, 0),
-        50_000,
-        0,
-        0,
-        1,
-        Accepted(0, (0, 222_000), Some(0), None),
+        Stretch((0, 0), 50_000, 0, 0, 1),
+        Ok(Accepted(0, (0, 222_000), Some(0), None)),
     ),
     Step(
-        (1, 1),
-        50_000,
-        52_500,
-        0,
-        1,
-        Accepted(0, (0, 222_000), Some(50_000), None),
+        Stretch((1, 1), 50_000, 52_500, 0, 1),
+        Ok(Accepted(0, (0, 222_000), Some(50_000), None)),
     ),
 ];
 
@@ -49,48 +39,39 @@ const LAST_THREE: [Row; 3] = [
 ];
 
 const LOW: [Asked; 8] = [
-    Asked(0, Record(0, 5, true, 50_000, Some(4), 500_000)),
-    Asked(1, Record(1, 0, false, 0, None, 1_000_000)),
-    Asked(2, Record(2, 0, false, 0, None, 1_000_000)),
-    Asked(3, Record(3, 0, false, 0, None, 1_000_000)),
-    Asked(4, Record(4, 0, false, 0, None, 1_000_000)),
-    Asked(5, Record(5, 0, false, 0, None, 1_000_000)),
-    Asked(6, Record(6, 0, false, 0, None, 1_000_000)),
-    Asked(7, Record(7, 0, false, 0, None, 1_000_000)),
+    Asked(0, Ok(Record(0, 5, true, 50_000, Some(4), 500_000))),
+    Asked(1, Ok(Record(1, 0, false, 0, None, 1_000_000))),
+    Asked(2, Ok(Record(2, 0, false, 0, None, 1_000_000))),
+    Asked(3, Ok(Record(3, 0, false, 0, None, 1_000_000))),
+    Asked(4, Ok(Record(4, 0, false, 0, None, 1_000_000))),
+    Asked(5, Ok(Record(5, 0, false, 0, None, 1_000_000))),
+    Asked(6, Ok(Record(6, 0, false, 0, None, 1_000_000))),
+    Asked(7, Ok(Record(7, 0, false, 0, None, 1_000_000))),
 ];
 
-const HIGH: [Asked; 1] = [Asked(0, Record(0, 5, false, 0, None, 1_000_000))];
+const HIGH: [Asked; 1] = [Asked(0, Ok(Record(0, 5, false, 0, None, 1_000_000)))];
 
-fn whole_block(report: &mut Report, block: &ClosedBlock<Containment>) -> io::Result<()> {
+fn whole_block(
+    report: &mut Report<impl Print>,
+    block: &ClosedBlock<Containment>,
+) -> io::Result<()> {
     records(report, block, Contract::Low, &LOW)?;
-    report.compare(
-        "low",
-        Money::of(block, Contract::Low),
-        Money(42_525, 500_000, 21_263),
-    )?;
+    money(report, block, Contract::Low, Money(42_525, 500_000, 21_263))?;
     records(report, block, Contract::High, &HIGH)?;
-    report.compare(
-        "high",
-        Money::of(block, Contract::High),
-        Money(0, 1_000_000, 0),
-    )
+    money(report, block, Contract::High, Money(0, 1_000_000, 0))
 }
 
-fn batch_verdicts(report: &mut Report, batch: &[Entry]) -> io::Result<()> {
+fn batch_verdicts(report: &mut Report<impl Print>, batch: &[Entry]) -> io::Result<()> {
     for entry in batch {
-        report.compare("verdict in a batch", entry.verdict.number(), 0)?;
+        report.compare("verdict in a batch", entry.number(), 0)?;
     }
     Ok(())
 }
 
-fn verdicts(report: &mut Report, calls: &[Call]) -> io::Result<()> {
+fn verdicts(report: &mut Report<impl Print>, calls: &[Call]) -> io::Result<()> {
     for call in calls {
         match call {
-            Call::Sample(entry) => report.compare(
-                "verdict of a sample",
-                entry.verdict.number(),
-                0,
-            )?,
+            Call::Sample(entry) => report.compare("verdict of a sample", entry.number(), 0)?,
             Call::Batch(batch) => batch_verdicts(report, batch)?,
         }
     }
@@ -100,30 +81,30 @@ fn verdicts(report: &mut Report, calls: &[Call]) -> io::Result<()> {
 fn calls(heap: Global) -> Result<[Call; 3], AllocError> {
     let batch = entries(heap, &MIDDLE)?;
     Ok([
-        Call::Sample(Entry::new(FIRST.reading())),
+        Call::Sample(Entry::new(Reading::from(FIRST))),
         Call::Batch(batch),
-        Call::Sample(Entry::new(LAST.reading())),
+        Call::Sample(Entry::new(Reading::from(LAST))),
     ])
 }
 
-fn in_one_call(report: &mut Report) -> io::Result<()> {
+fn in_one_call(report: &mut Report<impl Print + AllocGlobal>) -> io::Result<()> {
     report.title("The worked block, in one call")?;
-    let mut calls = calls(report.heap())?;
+    let mut calls = calls(report.runtime().alloc())?;
     let block = settle(usual(20, 5, FIFTY, NOT_HELD)?, Containment, &mut calls);
     verdicts(report, &calls)?;
     whole_block(report, &block)
 }
 
-fn call_by_call(report: &mut Report) -> io::Result<()> {
+fn call_by_call(report: &mut Report<impl Print + AllocGlobal>) -> io::Result<()> {
     report.title("The worked block, call by call")?;
     let mut account = Account::open(usual(20, 5, FIFTY, NOT_HELD)?, Containment);
     walk(report, &mut account, &FIRST_TWO)?;
-    let mut batch = entries(report.heap(), &LAST_THREE)?;
+    let mut batch = entries(report.runtime().alloc(), &LAST_THREE)?;
     report.compare("accepted of a batch of three", account.batch(&mut batch), 3)?;
     whole_block(report, &account.close())
 }
 
-pub fn show(report: &mut Report) -> io::Result<()> {
+pub fn show(report: &mut Report<impl Print + AllocGlobal>) -> io::Result<()> {
     in_one_call(report)?;
     call_by_call(report)
 }

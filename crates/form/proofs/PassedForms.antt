@@ -1,11 +1,13 @@
 -- Bytes that lead from the start to the end are a form.
-use Rattle.std.proofs.Common.{◌≡◌, ℕ, zero, suc, ◌<◌, ◌≤◌, Bool, true, cond, ◌&&◌, eqb, ltb, leb, List, [], ◌∷◌, ◌++◌, length, sym, refl, ap, ◌∙◌, subst, arith}
-use Rattle.std.proofs.lemmas.Bool.{and_from, cond_both, le-leb, ltb-true, eqb-true}
+use Rattle.std.proofs.Common.{◌≡◌, ℕ, zero, suc, ◌<◌, ◌≤◌, Bool, true, false, cond, ◌&&◌, eqb, ltb, leb, List, [], ◌∷◌, ◌++◌, length, Option, Some, None, option_and_then, refl, ap, arith}
+use Rattle.std.proofs.lemmas.Bool.{and_from, le-leb, ltb-true, eqb-true}
+use Rattle.std.proofs.lemmas.Option.{same_Some}
+use Rattle.std.specs.Option.{IsSomeAnd}
 use Rattle.form.specs.Alphabet.{letter, digit, first_digit, every}
 use Rattle.form.specs.Grammar.{is_word, Number, nought, plain, minus, Items, nothing, number, form, items_text, Fits, IsForm}
-use Rattle.form.specs.Scanning.{closed, after_item, item_begins, step, run}
+use Rattle.form.specs.Scanning.{closed, after_item, one_more, item_begins, step, run}
 use Rattle.form.specs.declared.state.State.{State}
-use Rattle.form.specs.declared.state.State.TheVariants.{Start, Opened, Word, Gap, Minus, After, Done, Stuck}
+use Rattle.form.specs.declared.state.State.TheVariants.{Start, Opened, Word, Gap, Minus, After, Done}
 use Rattle.form.specs.declared.state.State.TheVariants.{Number as Digits}
 
 -- Bytes that end so many open forms.
@@ -30,56 +32,46 @@ Rest l m (Minus d) bs = Open (suc l) m (suc d) (32 ∷ (45 ∷ bs))
 Rest l m (Digits left d) bs = Onward (suc l) m d digit left bs
 Rest l m (After d) bs = Open (suc l) m (suc d) bs
 Rest l m Done bs = bs ≡ []
-Rest l m Stuck bs = ⊥
 
 module _ (l m : ℕ) where
+  -- The same after a step.
+  abbrev Next : List ℕ → Option State → Type 0
+  Next bs o = IsSomeAnd o (λ s. Rest l m s bs)
+
+  either : (bs : List ℕ) {Q : Type 0} (b : Bool) (x y : Option State)
+      → (b ≡ true → Next bs x → Q) → (b ≡ false → Next bs y → Q) → Next bs (cond b x y) → Q
+  either bs true x y p q on = p refl on
+  either bs false x y p q on = q refl on
+
   -- A byte after a whole item.
   closed_back : (d : ℕ) (bs : List ℕ) → Rest l m (closed d) bs → Open (suc l) m d bs
-  closed_back zero bs rest = rest
-  closed_back (suc d) bs rest = rest
+  closed_back zero bs on = on
+  closed_back (suc d) bs on = on
 
-  after_back : (d b : ℕ) (bs : List ℕ) → Rest l m (after_item d b) bs → Open (suc l) m (suc d) (b ∷ bs)
+  after_back : (d b : ℕ) (bs : List ℕ) → Next bs (after_item d b) → Open (suc l) m (suc d) (b ∷ bs)
   after_back d b bs =
-      cond_both (eqb b 32) (Gap d) (cond (eqb b 41) (closed d) Stuck) (λ s. Rest l m s bs → Open (suc l) m (suc d) (b ∷ bs))
-      (λ e rest. subst (λ x. Open (suc l) m (suc d) (x ∷ bs)) (sym (eqb-true b 32 e)) rest)
-      (λ _. cond_both (eqb b 41) (closed d) Stuck (λ s. Rest l m s bs → Open (suc l) m (suc d) (b ∷ bs))
-      (λ e rest. (nothing, bs, tt, ap (λ x. x ∷ bs) (eqb-true b 41 e), closed_back d bs rest))
-      (λ _ rest. absurd rest))
+      either bs (eqb b 32) _ _ (λ e on. rw (eqb-true b 32 e) on)
+      (λ _. either bs (eqb b 41) _ _ (λ e on. (nothing, bs, tt, ap (λ x. x ∷ bs) (eqb-true b 41 e), closed_back d bs on))
+      (λ _ none. absurd none))
 
   -- A byte of a word or a number.
-  word_back : (left d b : ℕ) (bs : List ℕ) → Rest l m (step l m (Word left d) b) bs → Rest l m (Word left d) (b ∷ bs)
-  word_back zero d b bs =
-      cond_both (letter b) Stuck (after_item d b) (λ s. Rest l m s bs → Rest l m (Word zero d) (b ∷ bs))
-      (λ _ rest. absurd rest)
-      (λ _ rest. ([], b ∷ bs, refl, omega arith, refl, after_back d b bs rest))
-  word_back (suc left) d b bs =
-      cond_both (letter b) (Word left d) (after_item d b) (λ s. Rest l m s bs → Rest l m (Word (suc left) d) (b ∷ bs))
-      (λ e on. (
+  onward_back : (make : ℕ → ℕ → State) (test : ℕ → Bool)
+      → ((left d : ℕ) (bs : List ℕ) → Rest l m (make left d) bs → Onward (suc l) m d test left bs)
+      → (left d b : ℕ) (bs : List ℕ) → Next bs (cond (test b) (one_more make left d) (after_item d b))
+      → Onward (suc l) m d test left (b ∷ bs)
+  onward_back make test is zero d b bs =
+      either bs (test b) _ _ (λ _ none. absurd none)
+      (λ _ on. ([], b ∷ bs, refl, omega arith, refl, after_back d b bs on))
+  onward_back make test is (suc left) d b bs =
+      either bs (test b) _ _ (λ e more. let on = is left d bs more in (
         b ∷ on.0,
         on.1,
-        and_from (letter b) (every letter on.0) e on.2,
+        and_from (test b) (every test on.0) e on.2,
         omega (arith, on.3),
         ap (λ u. b ∷ u) on.4,
         on.5,
       ))
-      (λ _ rest. ([], b ∷ bs, refl, omega arith, refl, after_back d b bs rest))
-
-  number_back : (left d b : ℕ) (bs : List ℕ) → Rest l m (step l m (Digits left d) b) bs → Rest l m (Digits left d) (b ∷ bs)
-  number_back zero d b bs =
-      cond_both (digit b) Stuck (after_item d b) (λ s. Rest l m s bs → Rest l m (Digits zero d) (b ∷ bs))
-      (λ _ rest. absurd rest)
-      (λ _ rest. ([], b ∷ bs, refl, omega arith, refl, after_back d b bs rest))
-  number_back (suc left) d b bs =
-      cond_both (digit b) (Digits left d) (after_item d b) (λ s. Rest l m s bs → Rest l m (Digits (suc left) d) (b ∷ bs))
-      (λ e on. (
-        b ∷ on.0,
-        on.1,
-        and_from (digit b) (every digit on.0) e on.2,
-        omega (arith, on.3),
-        ap (λ u. b ∷ u) on.4,
-        on.5,
-      ))
-      (λ _ rest. ([], b ∷ bs, refl, omega arith, refl, after_back d b bs rest))
+      (λ _ on. ([], b ∷ bs, refl, omega arith, refl, after_back d b bs on))
 
   -- A whole number before what ends the open forms.
   number_before : (d : ℕ) (text rest : List ℕ) → Number (suc l) text → Open (suc l) m (suc d) rest
@@ -88,45 +80,32 @@ module _ (l m : ℕ) where
       (number text on.0, on.1, (is, on.2), ap (λ u. 32 ∷ (text ++ u)) on.3, on.4)
 
   -- The same of a form.
-  form_before : (d : ℕ) (w rest : List ℕ) → is_word w ≡ true → suc d < m → Open (suc l) m (suc (suc d)) rest
-      → Open (suc l) m (suc d) (32 ∷ (40 ∷ (w ++ rest)))
-  form_before d w rest worded shallow on =
-      let after = on.4 in (
-        form w on.0 after.0,
+  form_before : (d : ℕ) (bs : List ℕ) → suc d < m → Rest l m (Opened (suc d)) bs → Open (suc l) m (suc d) (32 ∷ (40 ∷ bs))
+  form_before d bs shallow on =
+      let inner = on.4 in let after = inner.4 in (
+        form on.0 inner.0 after.0,
         after.1,
-        (worded, shallow, on.2, after.2),
-        ap (λ u. 32 ∷ (40 ∷ (w ++ u))) (on.3 ∙ ap (λ u. items_text on.0 (41 ∷ u)) after.3),
+        (on.2, shallow, inner.2, after.2),
+        cc,
         after.4,
       )
 
-  opened_back : (d : ℕ) (bs : List ℕ) → suc d < m → Rest l m (Opened (suc d)) bs → Open (suc l) m (suc d) (32 ∷ (40 ∷ bs))
-  opened_back d bs shallow on =
-      subst (λ u. Open (suc l) m (suc d) (32 ∷ (40 ∷ u))) (sym on.3) (form_before d on.0 on.1 on.2 shallow on.4)
-
-  gap_back : (d b : ℕ) (bs : List ℕ) → Rest l m (item_begins l m d b) bs → Open (suc l) m (suc d) (32 ∷ (b ∷ bs))
+  gap_back : (d b : ℕ) (bs : List ℕ) → Next bs (item_begins l m d b) → Open (suc l) m (suc d) (32 ∷ (b ∷ bs))
   gap_back d b bs =
-      let P : State → Type 0 = λ s. Rest l m s bs → Open (suc l) m (suc d) (32 ∷ (b ∷ bs)) in
-      let put : (x : ℕ) → eqb b x ≡ true → Open (suc l) m (suc d) (32 ∷ (x ∷ bs)) → Open (suc l) m (suc d) (32 ∷ (b ∷ bs))
-      = λ x e. subst (λ y. Open (suc l) m (suc d) (32 ∷ (y ∷ bs))) (sym (eqb-true b x e)) in
-      cond_both (eqb b 48) (After d) _ P
-      (λ e on. put 48 e (number_before d (48 ∷ []) bs nought on))
-      (λ _. cond_both (first_digit b) (Digits l d) _ P
-      (λ e on. subst (λ u. Open (suc l) m (suc d) (32 ∷ (b ∷ u))) (sym on.4)
-      (number_before d (b ∷ on.0) on.1 (plain e on.2 (omega (arith, on.3))) on.5))
-      (λ _. cond_both (eqb b 45) (Minus d) _ P
-      (λ e on. put 45 e on)
-      (λ _. cond_both (eqb b 40) (cond (ltb (suc d) m) (Opened (suc d)) Stuck) Stuck P
-      (λ e. cond_both (ltb (suc d) m) (Opened (suc d)) Stuck P
-      (λ shallow on. put 40 e (opened_back d bs (ltb-true (suc d) m shallow) on))
-      (λ _ rest. absurd rest))
-      (λ _ rest. absurd rest))))
+      either bs (eqb b 48) _ _ (λ e on. rw (eqb-true b 48 e) (number_before d (48 ∷ []) bs nought on))
+      (λ _. either bs (first_digit b) _ _
+      (λ e on. rw on.4 (number_before d (b ∷ on.0) on.1 (plain e on.2 (omega (arith, on.3))) on.5))
+      (λ _. either bs (eqb b 45) _ _ (λ e on. rw (eqb-true b 45 e) on)
+      (λ _. either bs (eqb b 40) _ _ (λ e. either bs (ltb (suc d) m) _ _
+      (λ shallow on. rw (eqb-true b 40 e) (form_before d bs (ltb-true (suc d) m shallow) on))
+      (λ _ none. absurd none))
+      (λ _ none. absurd none))))
 
-  minus_back : (d b : ℕ) (bs : List ℕ) → Rest l m (step l m (Minus d) b) bs → Open (suc l) m (suc d) (32 ∷ (45 ∷ (b ∷ bs)))
+  minus_back : (d b : ℕ) (bs : List ℕ) → Next bs (step l m (Minus d) b) → Open (suc l) m (suc d) (32 ∷ (45 ∷ (b ∷ bs)))
   minus_back d b bs =
-      cond_both (first_digit b) (Digits l d) Stuck (λ s. Rest l m s bs → Open (suc l) m (suc d) (32 ∷ (45 ∷ (b ∷ bs))))
-      (λ e on. subst (λ u. Open (suc l) m (suc d) (32 ∷ (45 ∷ (b ∷ u)))) (sym on.4)
-      (number_before d (45 ∷ (b ∷ on.0)) on.1 (minus e on.2 (omega (arith, on.3))) on.5))
-      (λ _ rest. absurd rest)
+      either bs (first_digit b) _ _
+      (λ e on. rw on.4 (number_before d (45 ∷ (b ∷ on.0)) on.1 (minus e on.2 (omega (arith, on.3))) on.5))
+      (λ _ none. absurd none)
 
   word_from : (b : ℕ) (cs : List ℕ) → letter b ≡ true → every letter cs ≡ true → length cs ≤ 7 → is_word (b ∷ cs) ≡ true
   word_from b cs first all few =
@@ -137,34 +116,33 @@ module _ (l m : ℕ) where
       (and_from (letter b) (every letter cs) first all))
 
   -- One byte earlier.
-  back : (s : State) (b : ℕ) (bs : List ℕ) → Rest l m (step l m s b) bs → Rest l m s (b ∷ bs)
+  back : (s : State) (b : ℕ) (bs : List ℕ) → Next bs (step l m s b) → Rest l m s (b ∷ bs)
   back Start b bs =
-      cond_both (eqb b 40) (Opened 0) Stuck (λ s. Rest l m s bs → IsForm (suc l) m (b ∷ bs))
-      (λ e on. record {
+      either bs (eqb b 40) _ _ (λ e on. let items = on.4 in let is_bracket = eqb-true b 40 e in record {
         word = on.0;
-        items = on.4.0;
+        items = items.0;
         worded = on.2;
-        fits = on.4.2;
-        spelled =
-            ap (λ x. x ∷ bs) (eqb-true b 40 e)
-            ∙ ap (λ u. 40 ∷ u) (on.3 ∙ ap (λ u. on.0 ++ u) (on.4.3 ∙ ap (λ u. items_text on.4.0 (41 ∷ u)) on.4.4));
+        fits = items.2;
+        spelled = cc;
       })
-      (λ _ rest. absurd rest)
+      (λ _ none. absurd none)
   back (Opened d) b bs =
-      cond_both (letter b) (Word 7 d) Stuck (λ s. Rest l m s bs → Rest l m (Opened d) (b ∷ bs))
+      either bs (letter b) _ _
       (λ e on. (b ∷ on.0, on.1, word_from b on.0 e on.2 on.3, ap (λ u. b ∷ u) on.4, on.5))
-      (λ _ rest. absurd rest)
-  back (Word left d) b bs = word_back left d b bs
+      (λ _ none. absurd none)
+  back (Word left d) b bs = onward_back Word letter (λ _ _ _ on. on) left d b bs
   back (Gap d) b bs = gap_back d b bs
   back (Minus d) b bs = minus_back d b bs
-  back (Digits left d) b bs = number_back left d b bs
+  back (Digits left d) b bs = onward_back Digits digit (λ _ _ _ on. on) left d b bs
   back (After d) b bs = after_back d b bs
-  back Done b bs = λ rest. absurd rest
-  back Stuck b bs = λ rest. absurd rest
+  back Done b bs = λ none. absurd none
 
-  rest_back : (s : State) (bs : List ℕ) → run l m s bs ≡ Done → Rest l m s bs
-  rest_back s [] done = subst (λ t. Rest l m t []) (sym done) refl
-  rest_back s (b ∷ bs) done = back s b bs (rest_back (step l m s b) bs done)
+  rest_back : (s : State) (bs : List ℕ) → run l m s bs ≡ Some Done → Rest l m s bs
+  rest_back s [] done = rw (same_Some s Done done) refl
+  rest_back s (b ∷ bs) done =
+      back s b bs
+      (elim (step l m s b) as (λ o. option_and_then (λ t. run l m t bs) o ≡ Some Done → Next bs o)
+      [ None ↦ λ e. cc | Some t ↦ rest_back t bs ] done)
 
-  pub passed_form : (bs : List ℕ) → run l m Start bs ≡ Done → IsForm (suc l) m bs
+  pub passed_form : (bs : List ℕ) → run l m Start bs ≡ Some Done → IsForm (suc l) m bs
   passed_form bs done = rest_back Start bs done

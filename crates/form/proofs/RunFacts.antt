@@ -1,26 +1,21 @@
 -- What runs of steps come to.
-use Rattle.std.proofs.Common.{◌≡◌, ℕ, false, List, [], ◌∷◌, ◌++◌, sym, refl, ap, ◌∙◌}
-use Rattle.form.specs.Scanning.{step, run, stuck}
+use Rattle.std.proofs.Common.{◌≡◌, ℕ, ◌+◌, ◌<◌, List, [], ◌∷◌, ◌++◌, length, get_or, take, Some, None, option_and_then, refl}
+use Rattle.std.proofs.lemmas.List.{take_more}
+use Rattle.form.specs.Scanning.{step, run}
 use Rattle.form.specs.declared.state.State.{State}
-use Rattle.form.specs.declared.state.State.TheVariants.{Start, Opened, Word, Gap, Minus, Number, After, Done, Stuck}
+use Rattle.form.specs.declared.state.State.TheVariants.{Start}
 
-module _ (l m : ℕ) where
-  pub run_append : (s : State) (p q : List ℕ) → run l m s (p ++ q) ≡ run l m (run l m s p) q
-  run_append s [] q = refl
-  run_append s (b ∷ p) q = run_append (step l m s b) p q
+pub run_append : (l m : ℕ) (s : State) (p q : List ℕ)
+    → run l m s (p ++ q) ≡ option_and_then (λ t. run l m t q) (run l m s p)
+run_append l m s [] q = refl
+run_append l m s (b ∷ p) q =
+    elim (step l m s b) as (λ o. option_and_then (λ t. run l m t (p ++ q)) o
+    ≡ option_and_then (λ t. run l m t q) (option_and_then (λ t. run l m t p) o))
+    [ None ↦ refl | Some t ↦ run_append l m t p q ]
 
-  pub run_stuck : (bs : List ℕ) → run l m Stuck bs ≡ Stuck
-  run_stuck [] = refl
-  run_stuck (b ∷ bs) = run_stuck bs
-
-  -- What is stuck stays so.
-  pub free_before : (s : State) (bs : List ℕ) → stuck (run l m s bs) ≡ false → stuck s ≡ false
-  free_before Start bs free = refl
-  free_before (Opened outer) bs free = refl
-  free_before (Word left outer) bs free = refl
-  free_before (Gap outer) bs free = refl
-  free_before (Minus outer) bs free = refl
-  free_before (Number left outer) bs free = refl
-  free_before (After outer) bs free = refl
-  free_before Done bs free = refl
-  free_before Stuck bs free = ap stuck (sym (run_stuck bs)) ∙ free
+-- One byte more after the first bytes.
+pub run_more : (l m : ℕ) (bytes : List ℕ) (i : ℕ) (s : State) → i < length bytes → run l m Start (take i bytes) ≡ Some s
+    → run l m Start (take (i + 1) bytes) ≡ step l m s (get_or bytes i 0)
+run_more l m bytes i s inside is =
+    rw (take_more bytes i 0 inside, run_append l m Start (take i bytes) (get_or bytes i 0 ∷ []), is)
+    (elim (step l m s (get_or bytes i 0)) as (λ o. option_and_then Some o ≡ o) [ None ↦ refl | Some t ↦ refl ])

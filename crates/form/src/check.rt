@@ -1,9 +1,9 @@
 // Whether bytes are a form, and the first of them that does not fit.
 ghost use Rattle.std.specs.Prelude.{◌≡◌};
+ghost use Rattle.form.specs.Alphabet.{in_alphabet};
 ghost use Rattle.form.specs.Misfits.{Checked};
 ghost use Rattle.form.specs.Scanning.{kind_after, misfit_at, Ended};
 
-use crate::alphabet::in_alphabet;
 use crate::misfit::{Kind, Misfit};
 use crate::state::{Limits, State};
 
@@ -14,14 +14,21 @@ const LIMITS: Limits = Limits {
 };
 
 const ONE_DEPTH_MORE: Limits = Limits {
-    more_digits: 9,
-    depth: 5,
+    depth: LIMITS.depth + 1,
+    ..LIMITS
 };
 
 const ONE_DIGIT_MORE: Limits = Limits {
-    more_digits: 10,
-    depth: 4,
+    more_digits: LIMITS.more_digits + 1,
+    ..LIMITS
 };
+
+// Small letters, digits, brackets, space and minus.
+fn in_alphabet(b: u8) -> bool
+    ensures { result ≡ in_alphabet b }
+{
+    matches!(b, b'a'..=b'z' | b'0'..=b'9' | b'(' | b')' | b' ' | b'-')
+}
 
 // What is wrong with a byte that does not fit after this state.
 fn kind_of(state: State, b: u8) -> Kind
@@ -29,9 +36,9 @@ fn kind_of(state: State, b: u8) -> Kind
 {
     if !in_alphabet(b) {
         Kind::Alien
-    } else if !state.step(ONE_DEPTH_MORE, b).is_stuck() {
+    } else if state.step(ONE_DEPTH_MORE, b).is_some() {
         Kind::TooDeep
-    } else if !state.with_room().step(ONE_DIGIT_MORE, b).is_stuck() {
+    } else if state.with_room().step(ONE_DIGIT_MORE, b).is_some() {
         Kind::TooManyDigits
     } else {
         Kind::Misplaced
@@ -66,11 +73,10 @@ pub fn check_form(bytes: &[u8]) -> Result<(), Misfit>
     ensures { Checked bytes.now result }
 {
     let mut state = State::Start;
-    for (i, b) in bytes.iter().enumerate() {
-        let next = state.step(LIMITS, *b);
-        if next.is_stuck() {
-            return Err(misfit_at(state, i, *b));
-        }
+    for (i, &b) in bytes.iter().enumerate() {
+        let Some(next) = state.step(LIMITS, b) else {
+            return Err(misfit_at(state, i, b));
+        };
         state = next;
     }
     at_end(state, bytes.len())

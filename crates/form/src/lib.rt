@@ -1,7 +1,6 @@
 // Forms: the brackets, words and numbers that every line of a sheet is made of, and the first byte of a line that does not fit.
 #![tactic(auto)]
 
-mod alphabet;
 mod check;
 mod misfit;
 mod state;

@@ -1,8 +1,6 @@
 // What has been read of a form so far, as far as it matters for what may follow.
 ghost use Rattle.std.specs.Prelude.{◌≡◌};
-ghost use Rattle.form.specs.Scanning.{closed, after_item, item_begins, step, stuck, with_room};
-
-use crate::alphabet::{digit, first_digit, letter};
+ghost use Rattle.form.specs.Scanning.{closed, after_item, item_begins, step, with_room};
 
 // `outer` counts the forms around the one that is open; `left`, how many letters or digits may still come.
 #[derive(Clone, Copy)]
@@ -23,8 +21,6 @@ pub enum State {
     After(u8),
     // The outer form.
     Done,
-    // Bytes that begin no form.
-    Stuck,
 }
 
 // What a number and a form may come to.
@@ -39,81 +35,61 @@ impl State {
     fn closed(outer: u8) -> State
         ensures { result ≡ closed outer }
     {
-        if outer == 0 {
-            State::Done
-        } else {
-            State::After(outer - 1)
-        }
+        outer.checked_sub(1).map_or(State::Done, State::After)
     }
 
-    fn after_item(outer: u8, b: u8) -> State
+    fn after_item(outer: u8, b: u8) -> Option<State>
         ensures { result ≡ after_item outer b }
     {
         match b {
-            b' ' => State::Gap(outer),
-            b')' => State::closed(outer),
-            _ => State::Stuck,
+            b' ' => Some(State::Gap(outer)),
+            b')' => Some(State::closed(outer)),
+            _ => None,
         }
     }
 
-    fn item_begins(limits: Limits, outer: u8, b: u8) -> State
+    fn item_begins(limits: Limits, outer: u8, b: u8) -> Option<State>
         ensures { result ≡ item_begins limits.more_digits limits.depth outer b }
     {
         match b {
-            b'0' => State::After(outer),
-            b'1'..=b'9' => State::Number(limits.more_digits, outer),
-            b'-' => State::Minus(outer),
-            b'(' if (outer as u16) + 1 < limits.depth as u16 => State::Opened(outer + 1),
-            _ => State::Stuck,
+            b'0' => Some(State::After(outer)),
+            b'1'..=b'9' => Some(State::Number(limits.more_digits, outer)),
+            b'-' => Some(State::Minus(outer)),
+            b'(' => outer
+                .checked_add(1)
+                .filter(|around| *around < limits.depth)
+                .map(State::Opened),
+            _ => None,
         }
     }
 
-    // One byte more.
-    pub fn step(self, limits: Limits, b: u8) -> State
+    // One byte more, unless no form has it here.
+    pub fn step(self, limits: Limits, b: u8) -> Option<State>
         ensures { result ≡ step limits.more_digits limits.depth self b }
     {
-        match self {
-            State::Start if b == b'(' => State::Opened(0),
-            State::Opened(outer) if letter(b) => State::Word(7, outer),
-            State::Word(left, outer) if letter(b) => {
-                if left == 0 {
-                    State::Stuck
-                } else {
-                    State::Word(left - 1, outer)
-                }
-            }
-            State::Number(left, outer) if digit(b) => {
-                if left == 0 {
-                    State::Stuck
-                } else {
-                    State::Number(left - 1, outer)
-                }
-            }
-            State::Word(_, outer) | State::Number(_, outer) | State::After(outer) =>
+        match (self, b) {
+            (State::Start, b'(') => Some(State::Opened(0)),
+            (State::Opened(outer), b'a'..=b'z') => Some(State::Word(7, outer)),
+            // Letters and digits have an arm each: one for both would have to ask again which of them it has.
+            // A full word or number takes no more.
+            (State::Word(0, _), b'a'..=b'z') | (State::Number(0, _), b'0'..=b'9') => None,
+            (State::Word(left, outer), b'a'..=b'z') => Some(State::Word(left - 1, outer)),
+            (State::Number(left, outer), b'0'..=b'9') => Some(State::Number(left - 1, outer)),
+            (State::Word(_, outer) | State::Number(_, outer) | State::After(outer), _) =>
                 State::after_item(outer, b),
-            State::Gap(outer) => State::item_begins(limits, outer, b),
-            State::Minus(outer) if first_digit(b) => State::Number(limits.more_digits, outer),
-            _ => State::Stuck,
+            (State::Gap(outer), _) => State::item_begins(limits, outer, b),
+            (State::Minus(outer), b'1'..=b'9') => Some(State::Number(limits.more_digits, outer)),
+            _ => None,
         }
     }
 
-    // The same, where a number that is full may have one digit more.
+    // The same state, where a number that is full may have one digit more.
     pub fn with_room(self) -> State
         ensures { result ≡ with_room self }
     {
         match self {
             State::Number(0, outer) => State::Number(1, outer),
             _ => self,
-        }
-    }
-
-    // No bytes lead from here to a form.
-    pub fn is_stuck(self) -> bool
-        ensures { result ≡ stuck self }
-    {
-        match self {
-            State::Stuck => true,
-            _ => false,
         }
     }
 }

@@ -1,4 +1,4 @@
 pub mod Checks
-pub mod FlagTables
+pub mod Orders
 pub mod ReadingsFacts
 pub mod TermsFacts

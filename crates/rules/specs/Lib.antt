@@ -1,4 +1,5 @@
 pub mod Check
+pub mod Contract
 pub mod Flags
 pub mod Least
 pub mod ReadingsCheck

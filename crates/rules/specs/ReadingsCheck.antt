@@ -1,6 +1,6 @@
 -- Readings and the check that they have to pass. Assumes nothing.
 use Rattle.std.specs.Prelude.{ℕ, ◌*◌, Bool, true, ◌&&◌, pos, negsuc, Some, None, Option, int_le, int_lt}
-use Rattle.rules.specs.Check.{unless, within}
+use Rattle.basics.specs.Check.{unless, within}
 use Rattle.rules.specs.Terms.{periods}
 use Rattle.rules.specs.declared.terms.Terms.{Terms}
 use Rattle.rules.specs.declared.reading.Reading.{Reading}

@@ -6,6 +6,7 @@ use Rattle.rules.specs.declared.terms.Contract.{Contract}
 use Rattle.rules.specs.declared.terms.Contract.TheVariants.{Low, High}
 use Rattle.rules.specs.declared.terms.Held.{Held}
 use Rattle.rules.specs.declared.terms.Terms.{Terms}
+use Rattle.rules.specs.Contract.{picked}
 use Rattle.rules.specs.TermsCheck.{handed}
 use Rattle.rules.specs.declared.terms_input.TermsInput.{TermsInput}
 
@@ -15,8 +16,7 @@ periods t = 8
 
 -- A contract's quantity in MW and its price in pence per MW and hour.
 abbrev pub terms_of : Terms → Contract → Held
-terms_of t Low = t.low
-terms_of t High = t.high
+terms_of t c = picked c t.low t.high
 
 abbrev pub quantity : Terms → Contract → ℕ
 quantity t c = (terms_of t c).quantity
@@ -31,4 +31,4 @@ sides t = cond (holds t Low) (cond (holds t High) Both low_alone) high_alone
 
 -- What was handed in to get these terms.
 abbrev pub handed_in : Terms → TermsInput
-handed_in t = handed t.ticks t.needed t.a t.b t.low.quantity t.low.price t.high.quantity t.high.price
+handed_in t = handed t.ticks t.needed t.a t.b t.low t.high

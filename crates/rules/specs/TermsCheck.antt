@@ -1,6 +1,9 @@
 -- The check of terms that are handed in. Assumes nothing.
-use Rattle.std.specs.Prelude.{ℕ, Bool, not, ◌&&◌, ℤ, pos, is_some, None, Option, int_le, int_lt}
-use Rattle.rules.specs.Check.{unless, within, same}
+use Rattle.std.specs.Prelude.{ℕ, Bool, not, ◌&&◌, pos, is_some, None, Option, int_le, int_lt}
+use Rattle.basics.specs.Check.{unless, within}
+use Rattle.rules.specs.Check.{same}
+use Rattle.rules.specs.declared.terms.Held.{Held}
+use Rattle.rules.specs.declared.terms_input.Offer.{Offer}
 use Rattle.rules.specs.declared.terms_input.TermsInput.{TermsInput}
 use Rattle.rules.specs.declared.terms_input.TermsFault.{TermsFault}
 use Rattle.rules.specs.declared.terms_input.TermsFault.TheVariants.{NothingHeld, Quantity, Price, ToleranceA, ToleranceB, PeriodLength, LeastReadings}
@@ -50,18 +53,22 @@ terms_number ToleranceB = 5
 terms_number PeriodLength = 6
 terms_number LeastReadings = 7
 
--- Terms as they are handed in, from the ticks of a period, the readings that it needs, A and B, the low quantity and
--- price, and the high quantity and price.
-abbrev pub handed : ℕ → ℕ → ℕ → ℕ → ℕ → ℤ → ℕ → ℤ → TermsInput
-handed ticks needed a b lq lp hq hp = record {
+-- An offer as it is handed in, from what is held of it.
+abbrev pub offered : Held → Offer
+offered h = record { quantity = pos h.quantity; price = h.price }
+
+-- Terms as they are handed in, from the ticks of a period, the readings that it needs, A and B, and what is held of low and
+-- of high.
+abbrev pub handed : ℕ → ℕ → ℕ → ℕ → Held → Held → TermsInput
+handed ticks needed a b low high = record {
   ticks = pos ticks;
   needed = pos needed;
   a = pos a;
   b = pos b;
-  low = record { quantity = pos lq; price = lp };
-  high = record { quantity = pos hq; price = hp };
+  low = offered low;
+  high = offered high;
 }
 
 -- The check refuses none of them.
-unfoldable pub sound : ℕ → ℕ → ℕ → ℕ → ℕ → ℤ → ℕ → ℤ → Bool
-sound ticks needed a b lq lp hq hp = not (is_some (refused_terms (handed ticks needed a b lq lp hq hp)))
+unfoldable pub sound : ℕ → ℕ → ℕ → ℕ → Held → Held → Bool
+sound ticks needed a b low high = not (is_some (refused_terms (handed ticks needed a b low high)))

@@ -17,7 +17,7 @@ struct Table {
     from: [Row; 4],
 }
 
-// A table for those who hold low only, high only, and both.
+// A table for those who hold low only, high only, and both: in the order of `Sides`.
 const TABLES: [Table; 3] = [
     Table {
         from: [
@@ -73,10 +73,5 @@ const TABLES: [Table; 3] = [
 pub fn brings_back(held: Sides, old: &Accepted, new: &Accepted) -> bool
     ensures { result ≡ brings_back held old.now.reading.flag new.now.reading.flag }
 {
-    let table = match held {
-        Sides::Low => 0,
-        Sides::High => 1,
-        Sides::Both => 2,
-    };
-    TABLES[table].from[old.flag()].to[new.flag()]
+    TABLES[held as usize].from[old.flag()].to[new.flag()]
 }

@@ -3,7 +3,6 @@
 
 mod accepted;
 mod flags;
-mod order_of_checks;
 mod reading;
 mod run;
 mod terms;

@@ -1,8 +1,9 @@
 // The least or the greatest of a run, ties to the earliest: one way for every kind of record that has such an order.
-ghost use Rattle.std.specs.Prelude.{◌≡◌, Bool, int_lt, nat_lt};
+ghost use Rattle.std.specs.Prelude.{◌≡◌, Bool};
 ghost use Rattle.std.specs.Cmp.{IsStrictWeakOrder};
+ghost use Rattle.std.specs.Ordering.{is_lt};
 ghost use Rattle.rules.specs.Least.{least, EarliestLeast};
-ghost use Rattle.std.proofs.Common.{rules};
+ghost use Rattle.std.proofs.lemmas.List.MinMax.{ranks_by, IsStrictWeakOrder-flip};
 
 // An order on a kind of record: which of two comes before the other.
 pub trait Order<T> {
@@ -14,41 +15,31 @@ pub trait Order<T> {
     ghost ranks: { IsStrictWeakOrder before };
 }
 
-// The smaller number comes before.
+// The smaller comes before, whatever is ordered.
 #[derive(Clone, Copy)]
 pub struct Rising;
 
-// The greater number comes before.
+// The greater comes before.
 #[derive(Clone, Copy)]
 pub struct Falling;
 
-impl Order<i64> for Rising {
-    ghost before = { int_lt };
+impl<T: Ord> Order<T> for Rising {
+    ghost before = { λ x y. is_lt (T.cmp x y) };
 
-    ghost ranks = { Prim.search rules };
+    ghost ranks = { ranks_by T.total (λ x. x) };
 
-    fn before(x: &i64, y: &i64) -> bool {
-        *x < *y
+    fn before(x: &T, y: &T) -> bool {
+        x < y
     }
 }
 
-impl Order<i64> for Falling {
-    ghost before = { λ x y. int_lt y x };
+impl<T: Ord> Order<T> for Falling {
+    ghost before = { λ x y. is_lt (T.cmp y x) };
 
-    ghost ranks = { Prim.search rules };
+    ghost ranks = { IsStrictWeakOrder-flip (λ x y. is_lt (T.cmp x y)) (ranks_by T.total (λ x. x)) };
 
-    fn before(x: &i64, y: &i64) -> bool {
-        *y < *x
-    }
-}
-
-impl Order<u64> for Rising {
-    ghost before = { nat_lt };
-
-    ghost ranks = { Prim.search rules };
-
-    fn before(x: &u64, y: &u64) -> bool {
-        *x < *y
+    fn before(x: &T, y: &T) -> bool {
+        y < x
     }
 }
 

@@ -1,18 +1,18 @@
 // Terms as they are handed in, and the check that they have to pass.
-ghost use Rattle.std.specs.Prelude.{◌≡◌};
+ghost use Rattle.std.specs.Prelude.{◌≡◌, Some, None, Ok, Err};
 ghost use Rattle.rules.specs.TermsCheck.{refused_terms, terms_number, some_held, quantities_fit, prices_fit, a_fits, b_fits, length_fits, needed_fits};
 
-use crate::order_of_checks::{same, unless, within};
+use basics::require;
 
 // A contract's quantity in MW and price in pence per MW and hour, as handed in.
-#[derive(Clone, Copy)]
+#[derive(Clone, Copy, PartialEq, Eq, Debug)]
 pub struct Offer {
     pub quantity: i64,
     pub price: i64,
 }
 
 // Terms as handed in: any numbers at all.
-#[derive(Clone, Copy)]
+#[derive(Clone, Copy, PartialEq, Eq, Debug)]
 pub struct TermsInput {
     pub ticks: i64,
     pub needed: i64,
@@ -26,34 +26,27 @@ pub struct TermsInput {
 #[derive(Clone, Copy, PartialEq, Eq, Debug)]
 pub enum TermsFault {
     // Both quantities are 0.
-    NothingHeld,
+    NothingHeld = 1,
     // A quantity is outside 0 to 100.
-    Quantity,
+    Quantity = 2,
     // A price is outside 0 to 99,999.
-    Price,
+    Price = 3,
     // A is below 1,000.
-    ToleranceA,
+    ToleranceA = 4,
     // B is not above A, or above 1,000,000.
-    ToleranceB,
+    ToleranceB = 5,
     // The ticks of a period are outside 16 to 36,000.
-    PeriodLength,
+    PeriodLength = 6,
     // The readings that a period needs are outside 1 to its ticks.
-    LeastReadings,
+    LeastReadings = 7,
 }
 
 impl TermsFault {
+    // The number by which the refusal is reported. (Each type of fault has this line: a trait would ask it of each again.)
     pub fn number(self) -> u32
         ensures { result ≡ terms_number self }
     {
-        match self {
-            TermsFault::NothingHeld => 1,
-            TermsFault::Quantity => 2,
-            TermsFault::Price => 3,
-            TermsFault::ToleranceA => 4,
-            TermsFault::ToleranceB => 5,
-            TermsFault::PeriodLength => 6,
-            TermsFault::LeastReadings => 7,
-        }
+        self as u32
     }
 }
 
@@ -61,19 +54,19 @@ impl TermsInput {
     fn some_held(&self) -> bool
         ensures { result ≡ some_held self.now }
     {
-        !(same(self.low.quantity, 0) & same(self.high.quantity, 0))
+        self.low.quantity != 0 || self.high.quantity != 0
     }
 
     fn quantities_fit(&self) -> bool
         ensures { result ≡ quantities_fit self.now }
     {
-        within(0, 100, self.low.quantity) & within(0, 100, self.high.quantity)
+        (0..=100).contains(&self.low.quantity) & (0..=100).contains(&self.high.quantity)
     }
 
     fn prices_fit(&self) -> bool
         ensures { result ≡ prices_fit self.now }
     {
-        within(0, 99_999, self.low.price) & within(0, 99_999, self.high.price)
+        (0..=99_999).contains(&self.low.price) & (0..=99_999).contains(&self.high.price)
     }
 
     fn a_fits(&self) -> bool
@@ -91,25 +84,25 @@ impl TermsInput {
     fn length_fits(&self) -> bool
         ensures { result ≡ length_fits self.now }
     {
-        within(16, 36_000, self.ticks)
+        (16..=36_000).contains(&self.ticks)
     }
 
     fn needed_fits(&self) -> bool
         ensures { result ≡ needed_fits self.now }
     {
-        within(1, self.ticks, self.needed)
+        (1..=self.ticks).contains(&self.needed)
     }
 
-    // The first refusal in the order of their numbers, if any fits.
-    pub fn first_refusal(&self) -> Option<TermsFault>
-        ensures { result ≡ refused_terms self.now }
+    // Nothing if the terms pass every check, else the first refusal in the order of their numbers.
+    pub fn check(&self) -> Result<(), TermsFault>
+        ensures { elim result [ Ok _ ↦ refused_terms self.now ≡ None | Err e ↦ refused_terms self.now ≡ Some e ] }
     {
-        let needed = unless(self.needed_fits(), TermsFault::LeastReadings, None);
-        let length = unless(self.length_fits(), TermsFault::PeriodLength, needed);
-        let b = unless(self.b_fits(), TermsFault::ToleranceB, length);
-        let a = unless(self.a_fits(), TermsFault::ToleranceA, b);
-        let price = unless(self.prices_fit(), TermsFault::Price, a);
-        let quantity = unless(self.quantities_fit(), TermsFault::Quantity, price);
-        unless(self.some_held(), TermsFault::NothingHeld, quantity)
+        require(self.some_held(), TermsFault::NothingHeld)?;
+        require(self.quantities_fit(), TermsFault::Quantity)?;
+        require(self.prices_fit(), TermsFault::Price)?;
+        require(self.a_fits(), TermsFault::ToleranceA)?;
+        require(self.b_fits(), TermsFault::ToleranceB)?;
+        require(self.length_fits(), TermsFault::PeriodLength)?;
+        require(self.needed_fits(), TermsFault::LeastReadings)
     }
 }

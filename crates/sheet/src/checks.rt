@@ -4,13 +4,13 @@ ghost use Rattle.sheet.specs.Checks.{CheckedBlock, CheckedCurve};
 use crate::curve_line::CurveLine;
 use crate::faults::Cause;
 use curve::Points;
-use rules::{Terms, TermsInput, check_terms};
+use rules::{Terms, TermsInput};
 
 // The terms of a block line. A function and no TryFrom: its Err would be the rules' own fault, and here it is the sheet's cause.
 pub fn terms_of(input: &TermsInput) -> Result<Terms, Cause>
     ensures { CheckedBlock input.now result }
 {
-    Ok(check_terms(input)?)
+    Ok(Terms::try_from(*input)?)
 }
 
 // The curve of a curve line, in the same way.

@@ -1,69 +1,82 @@
-// What reading and writing a line answer.
-use crate::report::Report;
+// What reading and writing a line answer. Each `Display` but an error's is written by hand: no derive of the library writes one.
 use crate::visible::Visible;
-use sheet::{Line, read_line};
+use either::Either;
+use report::Report;
+use sheet::{Line, ReadFault, SheetFault, read_line};
 use std::{fmt, io};
-use template::WriteFault;
+use thiserror::Error;
 
+// Which line was read; a curve has so many points.
 #[derive(Clone, Copy, PartialEq, Eq)]
-pub enum Answer {
-    // What was read; a curve has so many points.
+pub enum Kind {
     Block,
     Curve(usize),
     Reading,
-    // The number of the refusal, and the byte.
-    RefusedAt(u32, usize),
-    // So many bytes were written.
-    Written(usize),
-    // The number of the refusal.
-    Refused(u32),
 }
 
-impl Answer {
-    pub fn of_reading(line: &[u8]) -> Answer {
-        let line = match read_line(line) {
-            Ok(line) => line,
-            Err(fault) => return Answer::RefusedAt(fault.number(), fault.byte()),
-        };
+impl From<Line> for Kind {
+    fn from(line: Line) -> Kind {
         match line {
-            Line::Block(_) => Answer::Block,
-            Line::Curve(curve) => Answer::Curve(curve.points().len()),
-            Line::Reading(_) => Answer::Reading,
-        }
-    }
-
-    pub fn of_writing(res: Result<usize, WriteFault>) -> Answer {
-        match res {
-            Ok(count) => Answer::Written(count),
-            Err(fault) => Answer::Refused(fault.number()),
+            Line::Block(_) => Kind::Block,
+            Line::Curve(curve) => Kind::Curve(curve.points().len()),
+            Line::Reading(_) => Kind::Reading,
         }
     }
 }
 
-impl fmt::Display for Answer {
+impl fmt::Display for Kind {
     fn fmt<W: fmt::Write>(&self, f: &mut fmt::Formatter<W>) -> fmt::Result {
         match *self {
-            Answer::Block => write!(f, "a block"),
-            Answer::Curve(points) => write!(f, "a curve, points {points}"),
-            Answer::Reading => write!(f, "a reading"),
-            Answer::RefusedAt(number, byte) => write!(f, "{number} at byte {byte}"),
-            Answer::Written(count) => write!(f, "{count} bytes"),
-            Answer::Refused(number) => write!(f, "{number}"),
+            Kind::Block => write!(f, "a block"),
+            Kind::Curve(points) => write!(f, "a curve, points {points}"),
+            Kind::Reading => write!(f, "a reading"),
         }
+    }
+}
+
+// The number of a refusal, and the byte.
+#[derive(Clone, Copy, PartialEq, Eq, Debug, Error)]
+#[error("{0} at byte {1}")]
+pub struct RefusedAt(pub u32, pub usize);
+
+impl From<ReadFault> for RefusedAt {
+    fn from(fault: ReadFault) -> RefusedAt {
+        RefusedAt(fault.number(), fault.byte())
+    }
+}
+
+impl From<SheetFault> for RefusedAt {
+    fn from(fault: SheetFault) -> RefusedAt {
+        RefusedAt(fault.number(), fault.byte)
+    }
+}
+
+// So many bytes were written.
+#[derive(Clone, Copy, PartialEq, Eq)]
+pub struct Written(pub usize);
+
+impl fmt::Display for Written {
+    fn fmt<W: fmt::Write>(&self, f: &mut fmt::Formatter<W>) -> fmt::Result {
+        write!(f, "{} bytes", self.0)
     }
 }
 
 // Bytes, and what reading them should answer.
 #[derive(Clone, Copy)]
-pub struct Case(pub &'static [u8], pub Answer);
+pub struct Case(pub &'static [u8], pub Result<Kind, RefusedAt>);
 
-pub fn read_each(report: &mut Report, title: &str, cases: &[Case]) -> io::Result<()> {
+fn read(line: &[u8]) -> Result<Kind, RefusedAt> {
+    Ok(Kind::from(read_line(line)?))
+}
+
+pub fn read_each(report: &mut Report<impl Print>, title: &str, cases: &[Case]) -> io::Result<()> {
     report.title(title)?;
-    for case in cases {
-        let Case(line, should_be) = *case;
-        let visible = Visible(line);
-        let what = format!(in report.heap(); "read {visible}")?;
-        report.answer(what.as_str(), Answer::of_reading(line), should_be)?;
+    for Case(line, should_be) in cases {
+        report.compare(
+            format_args!("read {}", Visible(line)),
+            Either::from(read(line)),
+            Either::from(*should_be),
+        )?;
     }
     Ok(())
 }

@@ -1,5 +1,5 @@
 // Lines of 200 bytes, and longer ones, which are refused before all else.
-use crate::answer::{Answer, Case};
+use crate::answer::{Case, Kind, RefusedAt};
 
 // 23 points, the most that fit.
 pub const POINTS_23: [u8; 200] =
@@ -44,15 +44,15 @@ const SPACE_AFTER: [u8; 201] =
     *b"(form 1 1 1 1 1 1 1 1 1 1 1 1 1 1 1 1 1 1 1 1 1 1 1 1 1 1 1 1 1 1 1 1 1 1 1 1 1 1 1 1 1 1 1 1 1 1 1 1 1 1 1 1 1 1 1 1 1 1 1 1 1 1 1 1 1 1 1 1 1 1 1 1 1 1 1 1 1 1 1 1 1 1 1 1 1 1 1 1 1 1 1 1 1 1 1 1 1) ";
 
 pub const CASES: [Case; 11] = [
-    Case(&POINTS_23, Answer::Curve(23)),
-    Case(&POINTS_23_OVER, Answer::RefusedAt(19, 200)),
-    Case(&POINTS_24, Answer::RefusedAt(19, 200)),
-    Case(&FORM, Answer::RefusedAt(24, 1)),
-    Case(&FORM_OVER, Answer::RefusedAt(19, 200)),
-    Case(&OPEN, Answer::RefusedAt(21, 200)),
-    Case(&OPEN_OVER, Answer::RefusedAt(19, 200)),
-    Case(&ALIEN, Answer::RefusedAt(20, 0)),
-    Case(&ALIEN_OVER, Answer::RefusedAt(19, 200)),
-    Case(&ALIEN_LAST, Answer::RefusedAt(20, 199)),
-    Case(&SPACE_AFTER, Answer::RefusedAt(19, 200)),
+    Case(&POINTS_23, Ok(Kind::Curve(23))),
+    Case(&POINTS_23_OVER, Err(RefusedAt(19, 200))),
+    Case(&POINTS_24, Err(RefusedAt(19, 200))),
+    Case(&FORM, Err(RefusedAt(24, 1))),
+    Case(&FORM_OVER, Err(RefusedAt(19, 200))),
+    Case(&OPEN, Err(RefusedAt(21, 200))),
+    Case(&OPEN_OVER, Err(RefusedAt(19, 200))),
+    Case(&ALIEN, Err(RefusedAt(20, 0))),
+    Case(&ALIEN_OVER, Err(RefusedAt(19, 200))),
+    Case(&ALIEN_LAST, Err(RefusedAt(20, 199))),
+    Case(&SPACE_AFTER, Err(RefusedAt(19, 200))),
 ];

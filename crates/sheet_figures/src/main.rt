@@ -5,7 +5,6 @@ mod answer;
 mod forms;
 mod lines;
 mod long_lines;
-mod report;
 mod sheet_faults;
 mod visible;
 mod written;
@@ -15,6 +14,7 @@ use report::Report;
 use std::io;
 
 fn main(rt: HostRuntime) -> io::Result<()> {
+    // One by one: a table of these titles and cases would have a line for each too.
     let mut report = Report::new(rt);
     read_each(&mut report, "Bytes that no form has", &forms::ALIEN)?;
     read_each(&mut report, "Where a form begins and ends", &forms::ENDS)?;

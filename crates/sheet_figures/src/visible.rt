@@ -8,7 +8,7 @@ const FRONT: usize = 40;
 
 const END: usize = 12;
 
-#[derive(Clone, Copy)]
+#[derive(Clone, Copy, PartialEq, Eq)]
 pub struct Visible<'a>(pub &'a [u8]);
 
 impl fmt::Display for Visible<'_> {
@@ -16,15 +16,13 @@ impl fmt::Display for Visible<'_> {
         let count = self.0.len();
         let end = count.saturating_sub(END);
         write!(f, "\"")?;
-        for (i, b) in self.0.iter().enumerate() {
-            let b = *b;
-            if count > MANY && FRONT <= i && i < end {
+        for (i, &b) in self.0.iter().enumerate() {
+            if count > MANY && (FRONT..end).contains(&i) {
                 if i == FRONT {
                     write!(f, " .. ")?;
                 }
-            } else if b' ' <= b && b <= b'~' {
-                let c = b as char;
-                write!(f, "{c}")?;
+            } else if matches!(b, b' '..=b'~') {
+                write!(f, "{}", b as char)?;
             } else {
                 write!(f, "\\x{b:02x}")?;
             }

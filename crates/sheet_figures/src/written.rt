@@ -1,15 +1,17 @@
 // Lines that are written, with what stands in the buffer then and what is read back; and lines that are not.
-use crate::answer::Answer;
+use crate::answer::Written;
 use crate::long_lines::{POINTS_23, POINTS_23_OVER, POINTS_24};
-use crate::report::Report;
 use crate::visible::Visible;
 use curve::Point;
+use either::Either;
+use report::Report;
 use rules::{Offer, Reading, TermsInput};
 use sheet::{CurveLine, Line, read_back, read_line, write_block, write_curve, write_reading};
 use std::io;
 use template::WriteFault;
 
-// What a line says; a curve by its ramp, lag and points.
+// What a line says; a curve by its ramp, lag and points. (A constant cannot be a `Line`: a curve line comes of a call that may
+// refuse.)
 #[derive(Clone, Copy)]
 enum Said {
     Block(TermsInput),
@@ -186,39 +188,10 @@ const NOT_WRITTEN: [Entry; 9] = [
     Entry(Said::Curve(1, 1, &[ONE; 24]), &POINTS_24),
 ];
 
-fn write(said: &Said, out: &mut [u8]) -> Result<usize, WriteFault> {
-    match *said {
-        Said::Block(terms) => write_block(&terms, out),
-        Said::Curve(ramp, lag, points) => write_curve(&CurveLine::new(ramp, lag, points)?, out),
-        Said::Reading(reading) => write_reading(&reading, out),
-    }
-}
-
-fn numbers(terms: &TermsInput) -> [i64; 8] {
-    let TermsInput {
-        ticks,
-        needed,
-        a,
-        b,
-        low,
-        high,
-    } = *terms;
-    [
-        ticks,
-        needed,
-        a,
-        b,
-        low.quantity,
-        low.price,
-        high.quantity,
-        high.price,
-    ]
-}
-
 // Whether a line that was read says this.
 fn is_said(said: Said, line: Line) -> bool {
     match (said, line) {
-        (Said::Block(terms), Line::Block(read)) => numbers(&terms) == numbers(&read),
+        (Said::Block(terms), Line::Block(read)) => terms == read,
         (Said::Curve(ramp, lag, points), Line::Curve(read)) => ramp == read.ramp
             && lag == read.lag
             && points == read.points(),
@@ -229,10 +202,8 @@ fn is_said(said: Said, line: Line) -> bool {
 
 // Whether the text is read as what it says.
 fn is_read(entry: &Entry) -> bool {
-    match read_line(entry.1) {
-        Ok(line) => is_said(entry.0, line),
-        Err(_) => false,
-    }
+    let Entry(said, text) = *entry;
+    read_line(text).is_ok_and(|line| is_said(said, line))
 }
 
 fn line_of(said: &Said) -> Result<Line, WriteFault> {
@@ -243,67 +214,77 @@ fn line_of(said: &Said) -> Result<Line, WriteFault> {
     })
 }
 
+fn write(said: &Said, out: &mut [u8]) -> Result<Written, WriteFault> {
+    let line = line_of(said)?;
+    let count = match line {
+        Line::Block(terms) => write_block(&terms, out)?,
+        Line::Curve(curve) => write_curve(&curve, out)?,
+        Line::Reading(reading) => write_reading(&reading, out)?,
+    };
+    Ok(Written(count))
+}
+
 // What comes back of a line that is written into 200 bytes and read from there.
 fn back(said: &Said) -> Result<Line, WriteFault> {
     let mut buffer = [0; 200];
     read_back(&line_of(said)?, &mut buffer)
 }
 
-fn comes_back(entry: &Entry) -> bool {
-    match back(&entry.0) {
-        Ok(line) => is_said(entry.0, line),
-        Err(_) => false,
-    }
+fn comes_back(said: Said) -> bool {
+    back(&said).is_ok_and(|line| is_said(said, line))
 }
 
-// Writes into a buffer of so many bytes, each a #. Where the line is written its text stands at the front then; where it is
-// not, the buffer is as it was.
+// Writes into a buffer of so many bytes, each a #; should answer the count of bytes, or the number of a refusal. Where the line
+// is written its text stands at the front then; where it is not, the buffer is as it was.
 fn write_into(
-    report: &mut Report,
+    report: &mut Report<impl Print + AllocGlobal>,
     room: usize,
     entry: &Entry,
-    should_be: Answer,
+    should_be: Result<Written, u32>,
 ) -> io::Result<()> {
-    let heap = report.heap();
+    let Entry(said, text) = *entry;
+    let heap = report.runtime().alloc();
     let mut buffer = vec![in heap; b'#'; room]?;
-    let mut expected = vec![in heap; b'#'; room]?;
-    if let Answer::Written(_) = should_be {
-        for (to, from) in expected.iter_mut().zip(entry.1) {
-            *to = *from;
-        }
+    let mut expected = Vec::new(heap);
+    if should_be.is_ok() {
+        expected.extend_from_slice(text)?;
     }
-    let answer = Answer::of_writing(write(&entry.0, &mut buffer));
-    let what = format!(in heap; "write into {room} bytes")?;
-    report.answer(what.as_str(), answer, should_be)?;
-    report.bytes("the buffer then", &buffer, &expected)
+    expected.resize(room, b'#')?;
+    report.compare(
+        format_args!("write into {room} bytes"),
+        Either::from(write(&said, &mut buffer).map_err(WriteFault::number)),
+        Either::from(should_be),
+    )?;
+    report.beside("the buffer then", Visible(&buffer), Visible(&expected))
 }
 
-fn line(report: &Report, entry: &Entry) -> io::Result<()> {
-    let text = Visible(entry.1);
-    let title = format!(in report.heap(); "The line {text}")?;
-    report.title(title.as_str())
+fn show_written(report: &mut Report<impl Print + AllocGlobal>, entry: &Entry) -> io::Result<()> {
+    let length = entry.1.len();
+    let count = Ok(Written(length));
+    write_into(report, length.saturating_add(3), entry, count)?;
+    write_into(report, length, entry, count)?;
+    write_into(report, length.saturating_sub(1), entry, Err(28))?;
+    report.holds("read as what it says", is_read(entry))?;
+    report.holds("written and read back as it was", comes_back(entry.0))
 }
 
-pub fn show(report: &mut Report) -> io::Result<()> {
+fn show_not_written(
+    report: &mut Report<impl Print + AllocGlobal>,
+    entry: &Entry,
+) -> io::Result<()> {
+    let length = entry.1.len();
+    write_into(report, length, entry, Err(27))?;
+    write_into(report, length.saturating_sub(1), entry, Err(27))
+}
+
+pub fn show(report: &mut Report<impl Print + AllocGlobal>) -> io::Result<()> {
     for entry in &WRITTEN {
-        line(report, entry)?;
-        let length = entry.1.len();
-        write_into(
-            report,
-            length.saturating_add(3),
-            entry,
-            Answer::Written(length),
-        )?;
-        write_into(report, length, entry, Answer::Written(length))?;
-        write_into(report, length.saturating_sub(1), entry, Answer::Refused(28))?;
-        report.holds("read as what it says", is_read(entry))?;
-        report.holds("written and read back as it was", comes_back(entry))?;
+        report.title(format_args!("The line {}", Visible(entry.1)))?;
+        show_written(report, entry)?;
     }
     for entry in &NOT_WRITTEN {
-        line(report, entry)?;
-        let length = entry.1.len();
-        write_into(report, length, entry, Answer::Refused(27))?;
-        write_into(report, length.saturating_sub(1), entry, Answer::Refused(27))?;
+        report.title(format_args!("The line {}", Visible(entry.1)))?;
+        show_not_written(report, entry)?;
     }
     Ok(())
 }

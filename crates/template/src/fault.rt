@@ -12,7 +12,7 @@ pub enum WriteFault {
 }
 
 impl WriteFault {
-    // The number by which the fault is reported.
+    // The number by which the fault is reported. (Each type of fault has this line: a trait would ask it of each again.)
     pub fn number(self) -> u32
         ensures { result ≡ write_fault_number self }
     {

@@ -16,6 +16,7 @@ pub enum PeriodFault {
 }
 
 impl PeriodFault {
+    // The number by which the fault is reported. (Each type of fault has this line: a trait would ask it of each again.)
     pub fn number(self) -> u32
         ensures { result ≡ period_number self }
     {
@@ -28,10 +29,7 @@ impl<C> ClosedBlock<C> {
     pub fn settlement(&self, contract: Contract) -> Settlement
         ensures { told result ≡ told_of contract self.now }
     {
-        match contract {
-            Contract::Low => self.low,
-            Contract::High => self.high,
-        }
+        contract.pick(self.low, self.high)
     }
 
     // The sum over payable periods, in pence.

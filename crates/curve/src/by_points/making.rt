@@ -53,6 +53,7 @@ impl Points {
     }
 }
 
+// Not derived: that would be a curve of no points.
 impl Default for Points {
     ghost is_default = { λ c. SameShape (held_shape c) containment };
 

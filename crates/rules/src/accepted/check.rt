@@ -9,6 +9,7 @@ use crate::terms::{Contract, Terms};
 
 impl Accepted {
     // The accepted reading, or the first refusal in the order of their numbers; `last` is the last accepted one before it.
+    #[tactic(auto, using(crate::proofs::ReadingsFacts::accepted_in_range))]
     pub fn check(
         terms: &Terms,
         last: &Option<Reading>,
@@ -16,9 +17,7 @@ impl Accepted {
     ) -> Result<Accepted, SampleFault>
         ensures { elim result [ Ok a ↦ (refused_reading terms.now last.now reading.now ≡ None) × (a.reading ≡ reading.now) | Err e ↦ refused_reading terms.now last.now reading.now ≡ Some e ] }
     {
-        if let Some(fault) = reading.first_refusal(terms, last) {
-            return Err(fault);
-        }
+        reading.check(terms, last)?;
         Ok(Accepted { reading: *reading })
     }
 
@@ -29,14 +28,17 @@ impl Accepted {
     }
 
     // Power less baseline, in kW.
+    #[tactic(auto, unfolding(crate::specs::ReadingsCheck::in_range))]
     pub fn response(&self) -> i64
         ensures value { result ≡ self.now.reading.power -ℤ self.now.reading.baseline }
-        ensures bounds { (negsuc 1999997 ≤ℤ result) × (result ≤ℤ pos 1999998) }
+        ensures least { negsuc 1999997 ≤ℤ result }
+        ensures most { result ≤ℤ pos 1999998 }
     {
         self.reading.power - self.reading.baseline
     }
 
-    // The flag as a place in a table.
+    // The flag as a place in a table. It stays a number: the rules number flags 0 to 3, and its two bits are the contracts.
+    #[tactic(auto, unfolding(crate::specs::ReadingsCheck::in_range))]
     pub fn flag(&self) -> usize
         ensures value { result ≡ unsigned_abs self.now.reading.flag }
         ensures bound { result < 4 }
@@ -45,6 +47,7 @@ impl Accepted {
     }
 
     // The tick as a count from the block's start.
+    #[tactic(auto, unfolding(crate::specs::ReadingsCheck::in_range))]
     pub fn tick(&self) -> u64
         ensures value { pos result ≡ self.now.reading.tick }
         ensures bound { result < 288000 }

@@ -7,15 +7,14 @@ use curve::Sides;
 
 impl Terms {
     // What is contracted for low or for high frequency.
+    #[tactic(auto, unfolding(crate::specs::TermsCheck::sound))]
     pub fn of(&self, contract: Contract) -> Held
         ensures value { result ≡ terms_of self.now contract }
         ensures bound { result.quantity ≤ 100 }
-        ensures price { (pos 0 ≤ℤ result.price) × (result.price ≤ℤ pos 99999) }
+        ensures least_price { pos 0 ≤ℤ result.price }
+        ensures most_price { result.price ≤ℤ pos 99999 }
     {
-        match contract {
-            Contract::Low => self.low,
-            Contract::High => self.high,
-        }
+        contract.pick(self.low, self.high)
     }
 
     // The contracts that are held.
@@ -30,9 +29,11 @@ impl Terms {
     }
 
     // The ticks of a period.
+    #[tactic(auto, unfolding(crate::specs::TermsCheck::sound))]
     pub fn ticks(&self) -> u64
         ensures value { result ≡ self.now.ticks }
-        ensures bounds { (16 ≤ result) × (result ≤ 36000) }
+        ensures least { 16 ≤ result }
+        ensures most { result ≤ 36000 }
     {
         self.ticks
     }
@@ -45,9 +46,12 @@ impl Terms {
     }
 
     // The tolerances A and B, in millionths of the contracted quantity.
+    #[tactic(auto, unfolding(crate::specs::TermsCheck::sound))]
     pub fn band(&self) -> (u64, u64)
-        ensures value { (result.0 ≡ self.now.a) × (result.1 ≡ self.now.b) }
-        ensures bounds { (result.0 < result.1) × (result.1 ≤ 1000000) }
+        ensures a { result.0 ≡ self.now.a }
+        ensures b { result.1 ≡ self.now.b }
+        ensures rising { result.0 < result.1 }
+        ensures most { result.1 ≤ 1000000 }
     {
         (self.a, self.b)
     }

@@ -2,11 +2,8 @@
 use Rattle.std.proofs.Common.{◌≡◌, ◌<◌, get_or, ◌∙◌, arith}
 use Rattle.curve.specs.Points.{at, along}
 use Rattle.curve.proofs.LoadingSteps.{no_point}
-use Rattle.curve.specs.PointsFacts.{first_onward, first_along, along_most}
+use Rattle.curve.specs.PointsFacts.{first_along, along_most}
 use Rattle.curve.proofs.lines.along.Goals as goal
-
-pub beyond-requires : goal.beyond-requires
-beyond-requires c = record { points = first_onward c.args.points.now no_point c.requires.rise c.requires.climb; past = omega arith }
 
 pub returns-else-deviation-at : goal.returns-else-deviation-at
 returns-else-deviation-at c =

@@ -1,20 +1,14 @@
--- A byte that sticks is the first misfit; at the end the state says whether the bytes are a form.
-use Rattle.std.proofs.Common.{sym}
-use Rattle.form.proofs.WrongBytes.{reached_more, wrong, checked}
+-- A byte that does not fit is the first misfit; at the end the state says whether the bytes are a form.
+use Rattle.std.proofs.Common.{arith, rules}
+use Rattle.form.proofs.RunFacts.{run_more}
+use Rattle.form.proofs.WrongBytes.{wrong, checked}
 use Rattle.form.proofs.check.check_form.Goals as goal
 
-pub returns-then-is_stuck : goal.returns-then-is_stuck
-returns-then-is_stuck c =
-    wrong c.args.bytes.now c.loop-i.i c.loop-i.state c.loop-i-test.true c.loop-i.invariant
-    c.step-next.result c.step-next.ensures (sym c.if-is_stuck.ensures)
-    c.misfit_at.result c.misfit_at.ensures
+pub returns-in_default : goal.returns-in_default
+returns-in_default c = search (rules, wrong)
 
 pub loop-i-preserved : goal.loop-i-preserved
-loop-i-preserved c =
-    reached_more c.args.bytes.now c.loop-i.i c.loop-i.state c.loop-i-test.true c.loop-i.invariant
-    c.step-next.result c.step-next.ensures (sym c.if-is_stuck.ensures)
+loop-i-preserved c = grind (arith, run_more)
 
 pub returns : goal.returns
-returns c =
-    checked c.args.bytes.now c.loop-i.i c.loop-i.state c.loop-i-test.false c.loop-i.invariant
-    c.at_end.result c.at_end.ensures
+returns c = search (rules, checked)

@@ -1,4 +1,4 @@
-use Rattle.template.proofs.DigitsRead.{Turn, turn, value_all}
+use Rattle.template.proofs.DigitsRead.{Turn, turn}
 use Rattle.template.proofs.number.value.Goals as goal
 
 in_turn : (c : goal.After-row_known-1) → Turn c.args.digits.now c.loop-d.d-index c.loop-d.n
@@ -6,11 +6,3 @@ in_turn c = turn c.args.digits.now c.loop-d.d-index c.loop-d.n c.loop-d-test.tru
 
 pub overflow_sub-n : goal.overflow_sub-n
 overflow_sub-n c = (in_turn c).low
-
-pub loop-d-preserved : goal.loop-d-preserved
-loop-d-preserved c =
-    let t = turn c.args.digits.now c.loop-d.d-index c.loop-d.n c.loop-d-test.true c.requires.few c.loop-d.invariant.0 c.loop-d.invariant.1 c.loop-d.invariant.2 in
-    (t.value, t.digits, t.bound)
-
-pub returns : goal.returns
-returns c = value_all _ _ _ c.loop-d-test.false c.loop-d.invariant.0
