@@ -1,5 +1,6 @@
 // How a curve line is made, what it says, and its numbers in the order in which they are written.
 ghost use Rattle.std.specs.Prelude.{◌≡◌, ◌%◌, ◌<◌, ◌≤◌, length, Ok, Err};
+ghost use Rattle.basics.specs.Few.{items};
 ghost use Rattle.sheet.specs.Lines.{curve_said, line_numbers, of_curve, points_of};
 ghost use Rattle.template.specs.declared.fault.WriteFault.TheVariants.{TooLong};
 
@@ -12,6 +13,14 @@ use template::WriteFault;
 // Ramp, lag, and two numbers for each point.
 pub const MOST_NUMBERS: usize = 48;
 
+// All of the points, where a line has room for them.
+fn kept(points: &[Point]) -> Few<Point, MOST_POINTS>
+    requires { length points.now ≤ 23 }
+    ensures { items result ≡ points.now }
+{
+    Few::first(points)
+}
+
 impl CurveLine {
     // A curve line, unless there are more points than a line can hold.
     pub fn new(ramp: i64, lag: i64, points: &[Point]) -> Result<CurveLine, WriteFault>
@@ -23,7 +32,7 @@ impl CurveLine {
         Ok(CurveLine {
             ramp,
             lag,
-            points: Few::first(points),
+            points: kept(points),
         })
     }
 
@@ -66,7 +75,7 @@ impl CurveLine {
         CurveLine {
             ramp: numbers[0],
             lag: numbers[1],
-            points: Few::first(points.as_slice()),
+            points: kept(points.as_slice()),
         }
     }
 }

@@ -1,7 +1,6 @@
-use Rattle.std.proofs.Common.{◌≡◌, length, get_or, take, pos, [], arith, ap, ◌∙◌, w64, SFits, rules}
+use Rattle.std.proofs.Common.{◌≡◌, length, get_or, pos, [], arith, ap, ◌∙◌, w64, SFits, rules}
 use Rattle.std.proofs.lemmas.Int.{to_z-of_z}
-use Rattle.std.proofs.lemmas.List.{length-drop, nil_from_length, take_all, take_rest}
-use Rattle.basics.specs.Few.{items}
+use Rattle.std.proofs.lemmas.List.{length-drop, nil_from_length, take_rest}
 use Rattle.sheet.proofs.ListedNumbers.{line_taken, point_taken}
 use Rattle.sheet.proofs.curve_line.CurveLine.of_numbers.Goals as goal
 
@@ -18,5 +17,5 @@ returns c =
     let f : SFits w64 (get_or c.args.numbers.now 0 (pos 0)) = search rules in
     let g : SFits w64 (get_or c.args.numbers.now 1 (pos 0)) = search rules in
     let none : c.loop-rest.rest.now ≡ [] = nil_from_length c.loop-rest.rest.now (omega arith) in
-    let held : items c.first.result ≡ c.loop-rest.points.items = c.first.ensures ∙ (ap (take 23) c.as_slice.ensures.value ∙ take_all 23 c.loop-rest.points.items (omega arith)) in
+    let held = c.kept.ensures ∙ c.as_slice.ensures.value in
     line_taken _ _ c.args.numbers.now c.loop-rest.rest.now c.loop-rest.points.items _ (to_z-of_z w64 _ f) (to_z-of_z w64 _ g) c.requires.some none c.loop-rest.invariant.0 held
