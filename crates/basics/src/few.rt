@@ -13,7 +13,7 @@ pub struct Few<T, const N: usize> {
     ghost room: { count ≤ N },
 }
 
-// By hand: the derive was tried, and is refused for this struct, since it has a ghost field.
+// By hand: the derive was tried, and is refused for a struct that has a ghost field and a type parameter.
 impl<T: Copy, const N: usize> Copy for Few<T, N> {}
 
 impl<T: Copy, const N: usize> Clone for Few<T, N> {

@@ -70,9 +70,9 @@ impl State {
         match (self, b) {
             (State::Start, b'(') => Some(State::Opened(0)),
             (State::Opened(outer), b'a'..=b'z') => Some(State::Word(7, outer)),
-            // Letters and digits have an arm each: one for both would have to ask again which of them it has.
             // A full word or number takes no more.
             (State::Word(0, _), b'a'..=b'z') | (State::Number(0, _), b'0'..=b'9') => None,
+            // Letters and digits have an arm each: one for both would have to ask again which of them it has.
             (State::Word(left, outer), b'a'..=b'z') => Some(State::Word(left - 1, outer)),
             (State::Number(left, outer), b'0'..=b'9') => Some(State::Number(left - 1, outer)),
             (State::Word(_, outer) | State::Number(_, outer) | State::After(outer), _) =>

@@ -13,7 +13,7 @@ pub fn terms_of(input: &TermsInput) -> Result<Terms, Cause>
     Ok(Terms::try_from(*input)?)
 }
 
-// The curve of a curve line, in the same way.
+// The curve of a curve line. A function too: one form for both lines is plainer than a TryFrom for one of them.
 pub fn curve_of(line: &CurveLine) -> Result<Points, Cause>
     ensures { CheckedCurve line.now result }
 {

@@ -4,7 +4,7 @@ use curve::Point;
 
 pub mod points;
 
-// A line of 200 bytes holds no more.
+// A line of 200 bytes holds no more. (That points are so few is asked where it is needed: a type for a count alone is no plainer.)
 pub const MOST_POINTS: usize = 23;
 
 #[derive(Clone, Copy)]

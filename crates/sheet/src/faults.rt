@@ -7,6 +7,7 @@ ghost use Rattle.sheet.specs.declared.faults.ReadFault.TheVariants.{Unfit as OfM
 use curve::PointsFault;
 use form::Misfit;
 use rules::{SampleFault, TermsFault};
+use template::LONGEST;
 
 // Why bytes are not read as a line.
 #[derive(Clone, Copy, PartialEq, Eq, Debug)]
@@ -36,7 +37,7 @@ impl ReadFault {
         ensures { result ≡ read_byte self }
     {
         match self {
-            ReadFault::TooLong => 200,
+            ReadFault::TooLong => LONGEST,
             ReadFault::Unfit(misfit) => misfit.byte,
             ReadFault::NotALine => 1,
         }

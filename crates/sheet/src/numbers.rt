@@ -1,4 +1,5 @@
-// Lines that have always as many numbers: what they say, and their numbers in the order in which they are written.
+// Lines with a fixed count of numbers: what they say, and their numbers in the order in which they are written. (No `From` either
+// way: what the lines say and arrays are types of other crates, and `From` has none of these laws.)
 use rules::{Offer, Reading, TermsInput};
 
 pub trait Numbered<const N: usize> {

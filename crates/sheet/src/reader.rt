@@ -13,7 +13,7 @@ use form::check_form;
 use rules::{Reading, TermsInput};
 use template::{LONGEST, read_filled};
 
-// What a line of one kind says, where it has always as many numbers.
+// What a line of one kind says, where it has a fixed count of numbers: so few that an array of them fits.
 fn read_kind<const N: usize, T: Numbered<N> + Drop>(bytes: &[u8]) -> Option<T>
     requires { N ≤ 100 }
     ensures { KindRead T.says bytes.now result }

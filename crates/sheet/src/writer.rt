@@ -10,7 +10,8 @@ use crate::templates::curve_template;
 use rules::{Reading, TermsInput};
 use template::{WriteFault, write_filled};
 
-// Writes a line that has always as many numbers, and says how many bytes it has; or says why not, and leaves the buffer as it was.
+// Writes a line with a fixed count of numbers, so few that an array of them fits, and says how many bytes it has; or says why not, and
+// leaves the buffer as it was.
 fn write_kind<const N: usize, T: Numbered<N>>(said: &T, out: &mut [u8]) -> Result<usize, WriteFault>
     requires { N ≤ 100 }
     ensures { Written (T.says said.now) out.old out.new result }
@@ -18,7 +19,7 @@ fn write_kind<const N: usize, T: Numbered<N>>(said: &T, out: &mut [u8]) -> Resul
     write_filled(T::template(), &said.numbers(), out)
 }
 
-// Writes a block line in this way.
+// Writes a block line in this way. (By a name of its own, like a reading line: the trait stays within the crate.)
 pub fn write_block(terms: &TermsInput, out: &mut [u8]) -> Result<usize, WriteFault>
     ensures { Written (of_block terms.now) out.old out.new result }
 {

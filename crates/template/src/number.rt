@@ -12,7 +12,7 @@ fn leading_digits(bytes: &[u8]) -> usize
     bytes.iter().take_while(|b| b.is_ascii_digit()).count()
 }
 
-// The value of at most ten digits.
+// The value of at most ten digits. (Not by `parse`: that takes text, which these bytes would first have to be shown to be.)
 fn value(digits: &[u8]) -> u64
     requires digits { all_ascii_digits digits.now ≡ true }
     requires few { length digits.now ≤ 10 }

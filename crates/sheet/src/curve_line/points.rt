@@ -11,7 +11,7 @@ use curve::Point;
 use template::WriteFault;
 
 // Ramp, lag, and two numbers for each point.
-pub const MOST_NUMBERS: usize = 48;
+pub const MOST_NUMBERS: usize = 2 * MOST_POINTS + 2;
 
 // All of the points, where a line has room for them.
 fn kept(points: &[Point]) -> Few<Point, MOST_POINTS>
@@ -43,6 +43,7 @@ impl CurveLine {
         self.points.as_slice()
     }
 
+    // Its numbers. (No `From`: others need not know of them.)
     pub(crate) fn numbers(&self) -> ArrayVec<i64, MOST_NUMBERS>
         ensures { result.items ≡ line_numbers (curve_said self.now) }
     {
@@ -56,7 +57,8 @@ impl CurveLine {
         numbers
     }
 
-    // The line with these numbers.
+    // The line with these numbers. (Not by `chunks_exact`, whose parts are slices that need an index again; no `From`, since any
+    // numbers are not a line's.)
     pub(crate) fn of_numbers(numbers: &[i64]) -> CurveLine
         requires some { 2 ≤ length numbers.now }
         requires few { length numbers.now ≤ 48 }
