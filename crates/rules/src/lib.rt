@@ -11,7 +11,7 @@ mod terms_input;
 pub use accepted::Accepted;
 pub use flags::brings_back;
 pub use reading::{Reading, SampleFault};
-pub use run::{Falling, Order, Rising, least};
+pub use run::{Falling, Order, Rising, least, orders_of_numbers};
 pub use terms::check::check_terms;
 pub use terms::{Contract, Held, PERIODS, Terms};
 pub use terms_input::{Offer, TermsFault, TermsInput};

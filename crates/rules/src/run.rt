@@ -1,5 +1,5 @@
 // The least or the greatest of a run, ties to the earliest: one way for every kind of record that has such an order.
-ghost use Rattle.std.specs.Prelude.{◌≡◌, Bool};
+ghost use Rattle.std.specs.Prelude.{◌≡◌, ℕ, ℤ, Bool, int_lt, nat_lt};
 ghost use Rattle.std.specs.Cmp.{IsStrictWeakOrder};
 ghost use Rattle.std.specs.Ordering.{is_lt};
 ghost use Rattle.rules.specs.Least.{least, EarliestLeast};
@@ -59,3 +59,10 @@ pub fn least<T: Copy, O: Order<T>>(run: &[T]) -> Option<T>
     }
     Some(best)
 }
+
+// At numbers, whether signed or not, rising goes by which is smaller and falling by which is greater.
+pub fn orders_of_numbers()
+    ensures rising { (x y : ℤ) → ⟦<Rising as Order<i64>>⟧.before x y ≡ int_lt x y }
+    ensures falling { (x y : ℤ) → ⟦<Falling as Order<i64>>⟧.before x y ≡ int_lt y x }
+    ensures rising_unsigned { (x y : ℕ) → ⟦<Rising as Order<u64>>⟧.before x y ≡ nat_lt x y }
+{}
