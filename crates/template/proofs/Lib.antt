@@ -1,3 +1,2 @@
 pub mod DigitsRead
 pub mod FilledRead
-pub mod Texts
