@@ -68,11 +68,6 @@ abbrev pub PutBehind : List ℕ → List ℕ → List ℕ → Result (Unit {0}) 
 PutBehind more before after (Ok done) = after ≡ before ++ more
 PutBehind more before after (Err fault) = (longest < length (before ++ more)) × (fault ≡ TooLong)
 
--- A text is made; or it has more than 200 bytes.
-abbrev pub Made : List ℕ → Result (ArrayVec ℕ) WriteFault → Type 0
-Made text (Ok made) = made.items ≡ text
-Made text (Err fault) = (longest < length text) × (fault ≡ TooLong)
-
 -- Each number has at most ten digits, and the text at most 200 bytes.
 abbrev pub fits_a_line : List ℤ → List ℕ → Bool
 fits_a_line numbers text = all_short numbers && nat_le (length text) longest

@@ -1,7 +1,7 @@
 // Text written by a template.
 ghost use Rattle.std.specs.Prelude.{◌≡◌};
 ghost use Rattle.template.specs.Numbers.{short};
-ghost use Rattle.template.specs.Templates.{all_short, fill, Made, WrittenText};
+ghost use Rattle.template.specs.Templates.{all_short, fill, PutBehind, WrittenText};
 
 use crate::digits::put_number;
 use crate::fault::WriteFault;
@@ -21,20 +21,19 @@ fn all_short(numbers: &[i64]) -> bool
     numbers.iter().all(|z| is_short(*z))
 }
 
-// The template's text for these numbers, 0 where they have run out.
-fn filled(template: &[u8], numbers: &[i64]) -> Result<Text, WriteFault>
-    ensures { Made (fill template.now numbers.now) result }
+// Puts the template's text for these numbers behind the text, 0 where they have run out.
+fn put_filled(template: &[u8], numbers: &[i64], text: &mut Text) -> Result<(), WriteFault>
+    ensures { PutBehind (fill template.now numbers.now) text.old.items text.new.items result }
 {
-    let mut text = Text::new();
     let mut left = numbers.iter();
     for b in template {
         if *b == b'#' {
-            put_number(left.next().copied().unwrap_or(0), &mut text)?;
+            put_number(left.next().copied().unwrap_or(0), text)?;
         } else {
-            put_byte(*b, &mut text)?;
+            put_byte(*b, text)?;
         }
     }
-    Ok(text)
+    Ok(())
 }
 
 // Writes the template's text for these numbers at the front of the buffer, and says how many bytes it has; or says why not, and leaves
@@ -45,7 +44,8 @@ pub fn write_filled(template: &[u8], numbers: &[i64], out: &mut [u8]) -> Result<
     if !all_short(numbers) {
         return Err(WriteFault::TooLong);
     }
-    let text = filled(template, numbers)?;
+    let mut text = Text::new();
+    put_filled(template, numbers, &mut text)?;
     let length = text.len();
     if length > out.len() {
         return Err(WriteFault::NoRoom);

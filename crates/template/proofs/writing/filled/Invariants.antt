@@ -1,7 +1,0 @@
--- What has been made and what is left to make are the text.
-use Rattle.std.proofs.Common.{◌≡◌, ◌++◌, drop}
-use Rattle.template.specs.Templates.{fill}
-use Rattle.template.proofs.writing.filled.Given as goal
-
-abbrev pub invariant-loop-b : goal.invariant-loop-b
-invariant-loop-b l = l.text.items ++ fill (drop l.b-index l.template) l.left.rest.now ≡ fill l.template l.numbers
