@@ -1,5 +1,5 @@
 // Accounts on curves of this program's own: 50 MW low at 1,701 pence, 30 MW high at 1,000 pence.
-use crate::asked::money;
+use crate::asked::{Comes, show_both};
 use crate::asymmetric_curve::Asymmetric;
 use crate::flat_curve::Flat;
 use crate::inputs::{FIFTY, Stretch, THIRTY, usual};
@@ -7,8 +7,8 @@ use crate::shown::{Accepted, Money};
 use crate::steps::{Step, walk};
 use crate::told::{Told, tells};
 use account::Account;
+use curve::Curve;
 use report::Report;
-use rules::Contract;
 use std::io;
 
 const FLAT: [Told; 3] = [Told(40_000, 0), Told(50_000, 0), Told(60_000, 0)];
@@ -111,47 +111,47 @@ const ON_ASYMMETRIC: [Step; 12] = [
     ),
 ];
 
-fn on_flat(report: &mut Report<impl Print>) -> io::Result<()> {
-    report.title("A curve that calls for no response: full 1000, ramp 250, lag 1")?;
-    tells(report, &Flat, &FLAT)?;
-    let mut account = Account::open(usual(20, 1, FIFTY, THIRTY)?, Flat);
-    walk(report, &mut account, &ON_FLAT)?;
-    let block = account.close();
-    money(
+// What a curve tells, what readings are answered on it, and what low and high come to then.
+fn on<C: Curve + Drop>(
+    report: &mut Report<impl Print>,
+    title: &str,
+    curve: C,
+    told: &[Told],
+    steps: &[Step],
+    (low, high): (Money, Money),
+) -> io::Result<()> {
+    report.title(title)?;
+    tells(report, &curve, told)?;
+    let mut account = Account::open(usual(20, 1, FIFTY, THIRTY)?, curve);
+    walk(report, &mut account, steps)?;
+    show_both(
         report,
-        &block,
-        Contract::Low,
-        Money(42_525, 250_000, 10_631),
-    )?;
-    money(
-        report,
-        &block,
-        Contract::High,
-        Money(15_000, 1_000_000, 15_000),
-    )
-}
-
-fn on_asymmetric(report: &mut Report<impl Print>) -> io::Result<()> {
-    report.title("A curve that is not symmetric: full 1000, ramp 250, lag 0")?;
-    tells(report, &Asymmetric, &ASYMMETRIC)?;
-    let mut account = Account::open(usual(20, 1, FIFTY, THIRTY)?, Asymmetric);
-    walk(report, &mut account, &ON_ASYMMETRIC)?;
-    let block = account.close();
-    money(
-        report,
-        &block,
-        Contract::Low,
-        Money(42_525, 1_000_000, 42_525),
-    )?;
-    money(
-        report,
-        &block,
-        Contract::High,
-        Money(15_000, 500_000, 7_500),
+        &account.close(),
+        (Comes(&[], low), Comes(&[], high)),
     )
 }
 
 pub fn show(report: &mut Report<impl Print>) -> io::Result<()> {
-    on_flat(report)?;
-    on_asymmetric(report)
+    on(
+        report,
+        "A curve that calls for no response: full 1000, ramp 250, lag 1",
+        Flat,
+        &FLAT,
+        &ON_FLAT,
+        (
+            Money(42_525, 250_000, 10_631),
+            Money(15_000, 1_000_000, 15_000),
+        ),
+    )?;
+    on(
+        report,
+        "A curve that is not symmetric: full 1000, ramp 250, lag 0",
+        Asymmetric,
+        &ASYMMETRIC,
+        &ON_ASYMMETRIC,
+        (
+            Money(42_525, 1_000_000, 42_525),
+            Money(15_000, 500_000, 7_500),
+        ),
+    )
 }

@@ -1,10 +1,11 @@
 // Earnings, sums and payments in whole pence, halves rounded up.
+use crate::asked::{high, low};
 use crate::inputs::{Contracted, NOT_HELD, Row, Stretch, hand_in, usual};
 use crate::shown::Money;
 use account::{Account, ClosedBlock};
 use curve::Containment;
 use report::Report;
-use rules::{Contract, Reading};
+use rules::Reading;
 use std::io;
 
 // What is contracted low, a power in kW, and what one period comes to in which four readings, all in grace, have that power.
@@ -22,16 +23,16 @@ const CASES: [Case; 8] = [
     Case((100, 99_999), 0, Money(4_999_950, 1_000_000, 4_999_950)),
 ];
 
-fn one_period(low: Contracted, power: i64) -> io::Result<Money> {
-    let mut account = Account::open(usual(20, 1, low, NOT_HELD)?, Containment);
+fn one_period(contracted: Contracted, power: i64) -> io::Result<Money> {
+    let mut account = Account::open(usual(20, 1, contracted, NOT_HELD)?, Containment);
     hand_in(&mut account, &[Stretch((0, 3), 50_000, power, 0, 1)]);
-    Ok(Money::of(&account.close(), Contract::Low))
+    Ok(low(&account.close()).money())
 }
 
 fn table(report: &mut Report<impl Print>) -> io::Result<()> {
-    for Case(low, power, should_be) in CASES {
-        let money = one_period(low, power)?;
-        let (quantity, price) = low;
+    for Case(contracted, power, should_be) in CASES {
+        let money = one_period(contracted, power)?;
+        let (quantity, price) = contracted;
         report.compare(
             format_args!("{quantity} MW at {price} pence, {power} kW"),
             money,
@@ -44,8 +45,8 @@ fn table(report: &mut Report<impl Print>) -> io::Result<()> {
 // One reading in each of eight periods of 16 ticks.
 fn eight_periods() -> io::Result<ClosedBlock<Containment>> {
     let mut account = Account::open(usual(16, 1, (100, 99_999), (100, 99_999))?, Containment);
-    for tick in [0, 16, 32, 48, 64, 80, 96, 112] {
-        let _ = account.sample(&Reading::from(Row(tick, 50_000, 0, 0, 3)));
+    for period in 0_u8..8 {
+        let _ = account.sample(&Reading::from(Row(16 * i64::from(period), 50_000, 0, 0, 3)));
     }
     Ok(account.close())
 }
@@ -56,12 +57,12 @@ pub fn show(report: &mut Report<impl Print>) -> io::Result<()> {
     let block = eight_periods()?;
     report.compare(
         "eight periods, low",
-        Money::of(&block, Contract::Low),
+        low(&block).money(),
         Money(39_999_600, 1_000_000, 39_999_600),
     )?;
     report.compare(
         "eight periods, high",
-        Money::of(&block, Contract::High),
+        high(&block).money(),
         Money(39_999_600, 1_000_000, 39_999_600),
     )
 }

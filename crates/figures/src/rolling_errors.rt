@@ -1,12 +1,11 @@
 // Where rolling errors start again, and which tick E goes with.
-use crate::asked::{Asked, record};
+use crate::asked::{Asked, low};
 use crate::inputs::{FIFTY, NOT_HELD, Stretch, hand_in, usual};
 use crate::shown::Record;
 use account::Account;
 use curve::Containment;
-use either::Either;
 use report::Report;
-use rules::{Contract, Terms};
+use rules::Terms;
 use std::io;
 
 // All readings are in grace, where the upper bound is 50,000 kW: 52,500 kW err by 50,000 millionths, 53,000 kW by 60,000 and
@@ -128,11 +127,7 @@ fn table(report: &mut Report<impl Print>, terms: Terms, cases: &[Case]) -> io::R
     for Case(name, stretches, Asked(period, should_be)) in cases {
         let mut account = Account::open(terms, Containment);
         hand_in(&mut account, stretches);
-        report.compare(
-            *name,
-            Either::from(record(&account.close(), Contract::Low, *period)),
-            Either::from(*should_be),
-        )?;
+        report.outcome(*name, low(&account.close()).record(*period), *should_be)?;
     }
     Ok(())
 }

@@ -1,19 +1,16 @@
 // How answers, records and money are written, shown and compared. Each `Display` but an error's is written by hand: no derive of
 // the library writes one. The columns of a row have no names, so that a table's rows stay short; the comment above a type names
 // them.
-use account::{Answer, ClosedBlock, PeriodFault};
-use either::{Either, Left, Right};
+use account::{Answer, PeriodFault};
+use either::Either;
 use factors::PeriodFigures;
 use rules::{Contract, SampleFault};
 use std::fmt;
 use thiserror::Error;
 
 // What there is, or what is written where there is nothing.
-pub fn or<T, D: Drop>(value: Option<T>, none: D) -> Either<T, D> {
-    match value {
-        Some(value) => Left(value),
-        None => Right(none),
-    }
+pub fn or<T, D: Drop>(value: Option<T>, none: D) -> Either<D, T> {
+    Either::from(value.ok_or(none))
 }
 
 // What is told of a contract goes by this name.
@@ -24,7 +21,8 @@ pub fn name(contract: Contract) -> &'static str {
     }
 }
 
-// A refusal, by its number.
+// A refusal, by its number: the numbers that docs/RULES.md gives are checked, which a fault's name would not show. (Each fault
+// has an impl of its own: no trait gives the number of any of them.)
 #[derive(Clone, Copy, PartialEq, Eq, Debug, Error)]
 #[error("refused {0}")]
 pub struct Refused(pub u32);
@@ -103,16 +101,6 @@ impl fmt::Display for Record {
 // What a contract comes to: the sum in pence, the block factor and the payment in pence.
 #[derive(Clone, Copy, PartialEq, Eq)]
 pub struct Money(pub i64, pub u64, pub i64);
-
-impl Money {
-    pub fn of<C>(block: &ClosedBlock<C>, contract: Contract) -> Money {
-        Money(
-            block.sum(contract),
-            block.factor(contract),
-            block.payment(contract),
-        )
-    }
-}
 
 impl fmt::Display for Money {
     fn fmt<W: fmt::Write>(&self, f: &mut fmt::Formatter<W>) -> fmt::Result {

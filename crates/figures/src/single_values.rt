@@ -1,5 +1,5 @@
 // Single values of the rules: curves, period factors and an earning.
-use crate::asked::{Asked, records};
+use crate::asked::{Asked, low};
 use crate::inputs::{Contracted, FIFTY, NOT_HELD, Stretch, hand_in, usual};
 use crate::shown::Record;
 use crate::told::{Told, tells};
@@ -72,7 +72,7 @@ fn period_factor(report: &mut Report<impl Print>, terms: Terms, row: Factored) -
     let mut account = Account::open(terms, Containment);
     hand_in(&mut account, &[Stretch((0, 23), frequency, power, 0, 1)]);
     let record = Asked(1, Ok(Record(1, 4, false, error, Some(23), should_be)));
-    records(report, &account.close(), Contract::Low, &[record])
+    low(&account.close()).show_records(report, &[record])
 }
 
 fn period_factors(report: &mut Report<impl Print>) -> io::Result<()> {

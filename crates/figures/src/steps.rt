@@ -3,7 +3,6 @@ use crate::inputs::Stretch;
 use crate::shown::{Accepted, Refused};
 use account::Account;
 use curve::Curve;
-use either::Either;
 use report::Report;
 use std::io;
 
@@ -21,11 +20,7 @@ pub fn walk<C: Curve>(
     steps: &[Step],
 ) -> io::Result<()> {
     for Step(stretch, should_be) in steps {
-        report.compare(
-            *stretch,
-            Either::from(answered(account, stretch)),
-            Either::from(*should_be),
-        )?;
+        report.outcome(*stretch, answered(account, stretch), *should_be)?;
     }
     Ok(())
 }

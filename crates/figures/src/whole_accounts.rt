@@ -1,31 +1,30 @@
 // What batches, refused readings and closed blocks tell.
-use crate::asked::{Asked, money, records};
-use crate::inputs::{FIFTY, NOT_HELD, Row, Stretch, THIRTY, entries, hand_in, usual};
+use crate::asked::{Asked, Comes, low, show_both};
+use crate::cases::Case;
+use crate::inputs::{Contracted, FIFTY, NOT_HELD, Row, Stretch, THIRTY, entries, hand_in, usual};
 use crate::shown::{Accepted, Money, Record, Refused};
 use crate::steps::{Step, walk};
 use account::{Account, Entry};
 use curve::Containment;
 use report::Report;
-use rules::{Contract, Reading};
+use rules::Reading;
 use std::io;
 
-const BATCH: [Row; 8] = [
-    Row(0, 50_000, 0, 0, 1),
-    Row(1, 39_999, 0, 0, 1),
-    Row(1, 50_000, 1_000_000, 0, 1),
-    Row(1, 50_000, 0, 1_000_000, 1),
-    Row(1, 50_000, 0, 0, 4),
-    Row(0, 50_000, 0, 0, 1),
-    Row(160, 50_000, 0, 0, 1),
-    Row(1, 50_000, 0, 0, 1),
+const BATCH: [Case<Row>; 8] = [
+    Case(Row(0, 50_000, 0, 0, 1), None),
+    Case(Row(1, 39_999, 0, 0, 1), Some(13)),
+    Case(Row(1, 50_000, 1_000_000, 0, 1), Some(14)),
+    Case(Row(1, 50_000, 0, 1_000_000, 1), Some(15)),
+    Case(Row(1, 50_000, 0, 0, 4), Some(16)),
+    Case(Row(0, 50_000, 0, 0, 1), Some(17)),
+    Case(Row(160, 50_000, 0, 0, 1), Some(18)),
+    Case(Row(1, 50_000, 0, 0, 1), None),
 ];
 
-// The number of a verdict, 0 where the reading is accepted.
-const VERDICTS: [u32; 8] = [0, 13, 14, 15, 16, 17, 18, 0];
-
+// What an entry tells as a number is 0 where its reading is accepted.
 fn verdicts(report: &mut Report<impl Print>, batch: &[Entry]) -> io::Result<()> {
-    for (entry, should_be) in batch.iter().zip(&VERDICTS) {
-        report.compare("verdict", entry.number(), *should_be)?;
+    for (entry, Case(_, should_be)) in batch.iter().zip(&BATCH) {
+        report.compare("verdict", entry.number(), should_be.unwrap_or(0))?;
     }
     Ok(())
 }
@@ -34,22 +33,20 @@ fn unchanged(batch: &[Entry]) -> usize {
     batch
         .iter()
         .zip(&BATCH)
-        .filter(|(entry, row)| entry.reading == Reading::from(**row))
+        .filter(|(entry, case)| entry.reading == Reading::from(case.0))
         .count()
 }
 
 fn batches(report: &mut Report<impl Print + AllocGlobal>) -> io::Result<()> {
     report.title("A batch with a reading for each refusal, and a batch without readings")?;
     let mut account = Account::open(usual(20, 1, FIFTY, NOT_HELD)?, Containment);
-    let mut batch = entries(report.runtime().alloc(), &BATCH)?;
+    let mut batch = entries(report.runtime().alloc(), &BATCH.map(|case| case.0))?;
     report.compare("accepted", account.batch(&mut batch), 2)?;
     verdicts(report, &batch)?;
     report.compare("readings unchanged", unchanged(&batch), 8)?;
     report.compare("accepted of none", account.batch(&mut []), 0)?;
-    records(
+    low(&account.close()).show_records(
         report,
-        &account.close(),
-        Contract::Low,
         &[Asked(0, Ok(Record(0, 2, true, 0, None, 1_000_000)))],
     )
 }
@@ -88,12 +85,7 @@ fn refused_readings(report: &mut Report<impl Print>) -> io::Result<()> {
     let mut account = Account::open(usual(40, 1, FIFTY, NOT_HELD)?, Containment);
     walk(report, &mut account, &AMID_REFUSALS)?;
     let record = Record(0, 25, true, 40_000, Some(24), 750_000);
-    records(
-        report,
-        &account.close(),
-        Contract::Low,
-        &[Asked(0, Ok(record))],
-    )
+    low(&account.close()).show_records(report, &[Asked(0, Ok(record))])
 }
 
 const UNREAD: [Asked; 8] = [
@@ -110,9 +102,12 @@ const UNREAD: [Asked; 8] = [
 fn no_readings(report: &mut Report<impl Print>) -> io::Result<()> {
     report.title("A block without readings, and refusal 26")?;
     let block = Account::open(usual(20, 1, FIFTY, THIRTY)?, Containment).close();
-    records(report, &block, Contract::Low, &UNREAD)?;
-    money(report, &block, Contract::Low, Money(0, 1_000_000, 0))?;
-    money(report, &block, Contract::High, Money(0, 1_000_000, 0))
+    let nothing = Money(0, 1_000_000, 0);
+    show_both(
+        report,
+        &block,
+        (Comes(&UNREAD, nothing), Comes(&[], nothing)),
+    )
 }
 
 const LOW_ERRING: [Asked; 1] = [Asked(0, Ok(Record(0, 5, true, 600_000, Some(3), 0)))];
@@ -123,55 +118,64 @@ const NOT_PAYABLE: [Asked; 1] = [Asked(0, Ok(Record(0, 5, false, 0, None, 1_000_
 
 const TOO_FEW: [Asked; 1] = [Asked(0, Ok(Record(0, 4, false, 0, None, 1_000_000)))];
 
-// A response of -30,000 kW errs for low.
-fn not_held(report: &mut Report<impl Print>) -> io::Result<()> {
-    report.title("High is not held, and available at every reading")?;
-    let mut account = Account::open(usual(20, 5, FIFTY, NOT_HELD)?, Containment);
-    hand_in(&mut account, &[Stretch((0, 4), 50_000, -30_000, 0, 3)]);
-    let block = account.close();
-    records(report, &block, Contract::Low, &LOW_ERRING)?;
-    money(report, &block, Contract::Low, Money(42_525, 0, 0))?;
-    records(report, &block, Contract::High, &PAYABLE)?;
-    money(report, &block, Contract::High, Money(0, 1_000_000, 0))
-}
-
-fn least_readings(report: &mut Report<impl Print>) -> io::Result<()> {
-    report.title("Four readings and five, where a payable period needs five")?;
-    let mut account = Account::open(usual(20, 5, FIFTY, NOT_HELD)?, Containment);
-    hand_in(&mut account, &[Stretch((0, 3), 50_000, 0, 0, 1)]);
-    records(report, &account.close(), Contract::Low, &TOO_FEW)?;
-    let mut account = Account::open(usual(20, 5, FIFTY, NOT_HELD)?, Containment);
-    hand_in(&mut account, &[Stretch((0, 4), 50_000, 0, 0, 1)]);
-    records(report, &account.close(), Contract::Low, &PAYABLE)
-}
-
 const HIGH_MISSING_ONCE: [Stretch; 3] = [
     Stretch((0, 1), 50_000, 0, 0, 3),
     Stretch((2, 2), 50_000, 0, 0, 1),
     Stretch((3, 4), 50_000, 0, 0, 3),
 ];
 
-fn available_throughout(report: &mut Report<impl Print>) -> io::Result<()> {
-    report.title("Both held, and high not available at one of five readings")?;
-    let mut account = Account::open(usual(20, 5, FIFTY, THIRTY)?, Containment);
-    hand_in(&mut account, &HIGH_MISSING_ONCE);
-    let block = account.close();
-    records(report, &block, Contract::Low, &PAYABLE)?;
-    money(
-        report,
-        &block,
-        Contract::Low,
-        Money(42_525, 1_000_000, 42_525),
-    )?;
-    records(report, &block, Contract::High, &NOT_PAYABLE)?;
-    money(report, &block, Contract::High, Money(0, 1_000_000, 0))
+// A period under 50 MW low: what is contracted high, the readings, and what should be told of low and of high.
+#[derive(Clone, Copy)]
+struct Period {
+    title: &'static str,
+    high: Contracted,
+    readings: &'static [Stretch],
+    should_be: (Comes, Comes),
+}
+
+// A response of -30,000 kW errs for low.
+const HIGH_NOT_HELD: Period = Period {
+    title: "High is not held, and available at every reading",
+    high: NOT_HELD,
+    readings: &[Stretch((0, 4), 50_000, -30_000, 0, 3)],
+    should_be: (
+        Comes(&LOW_ERRING, Money(42_525, 0, 0)),
+        Comes(&PAYABLE, Money(0, 1_000_000, 0)),
+    ),
+};
+
+const NOT_THROUGHOUT: Period = Period {
+    title: "Both held, and high not available at one of five readings",
+    high: THIRTY,
+    readings: &HIGH_MISSING_ONCE,
+    should_be: (
+        Comes(&PAYABLE, Money(42_525, 1_000_000, 42_525)),
+        Comes(&NOT_PAYABLE, Money(0, 1_000_000, 0)),
+    ),
+};
+
+fn one_period(report: &mut Report<impl Print>, period: Period) -> io::Result<()> {
+    report.title(period.title)?;
+    let mut account = Account::open(usual(20, 5, FIFTY, period.high)?, Containment);
+    hand_in(&mut account, period.readings);
+    show_both(report, &account.close(), period.should_be)
+}
+
+fn least_readings(report: &mut Report<impl Print>) -> io::Result<()> {
+    report.title("Four readings and five, where a payable period needs five")?;
+    for (last, should_be) in [(3, TOO_FEW), (4, PAYABLE)] {
+        let mut account = Account::open(usual(20, 5, FIFTY, NOT_HELD)?, Containment);
+        hand_in(&mut account, &[Stretch((0, last), 50_000, 0, 0, 1)]);
+        low(&account.close()).show_records(report, &should_be)?;
+    }
+    Ok(())
 }
 
 pub fn show(report: &mut Report<impl Print + AllocGlobal>) -> io::Result<()> {
     batches(report)?;
     refused_readings(report)?;
     no_readings(report)?;
-    not_held(report)?;
+    one_period(report, HIGH_NOT_HELD)?;
     least_readings(report)?;
-    available_throughout(report)
+    one_period(report, NOT_THROUGHOUT)
 }

@@ -1,12 +1,13 @@
 // The worked block of the rules: low only, 50 MW at 1,701 pence, periods of 20 ticks that need 5 readings.
-use crate::asked::{Asked, money, records};
+use crate::asked::{Asked, Comes, show_both};
+use crate::cases::refusal;
 use crate::inputs::{FIFTY, NOT_HELD, Row, Stretch, entries, usual};
 use crate::shown::{Accepted, Money, Record};
 use crate::steps::{Step, walk};
-use account::{Account, Call, ClosedBlock, Entry, settle};
+use account::{Account, Call, Entry, settle};
 use curve::Containment;
 use report::Report;
-use rules::{Contract, Reading};
+use rules::{Reading, SampleFault};
 use std::alloc::{AllocError, Global};
 use std::io;
 
@@ -51,19 +52,20 @@ const LOW: [Asked; 8] = [
 
 const HIGH: [Asked; 1] = [Asked(0, Ok(Record(0, 5, false, 0, None, 1_000_000)))];
 
-fn whole_block(
-    report: &mut Report<impl Print>,
-    block: &ClosedBlock<Containment>,
-) -> io::Result<()> {
-    records(report, block, Contract::Low, &LOW)?;
-    money(report, block, Contract::Low, Money(42_525, 500_000, 21_263))?;
-    records(report, block, Contract::High, &HIGH)?;
-    money(report, block, Contract::High, Money(0, 1_000_000, 0))
+// What should be told of low and of high.
+const BOTH: (Comes, Comes) = (
+    Comes(&LOW, Money(42_525, 500_000, 21_263)),
+    Comes(&HIGH, Money(0, 1_000_000, 0)),
+);
+
+fn accepted(report: &mut Report<impl Print>, name: &str, entry: &Entry) -> io::Result<()> {
+    let refused = entry.verdict.err().map(SampleFault::number);
+    refusal(report, name, refused, None)
 }
 
 fn batch_verdicts(report: &mut Report<impl Print>, batch: &[Entry]) -> io::Result<()> {
     for entry in batch {
-        report.compare("verdict in a batch", entry.number(), 0)?;
+        accepted(report, "verdict in a batch", entry)?;
     }
     Ok(())
 }
@@ -71,7 +73,7 @@ fn batch_verdicts(report: &mut Report<impl Print>, batch: &[Entry]) -> io::Resul
 fn verdicts(report: &mut Report<impl Print>, calls: &[Call]) -> io::Result<()> {
     for call in calls {
         match call {
-            Call::Sample(entry) => report.compare("verdict of a sample", entry.number(), 0)?,
+            Call::Sample(entry) => accepted(report, "verdict of a sample", entry)?,
             Call::Batch(batch) => batch_verdicts(report, batch)?,
         }
     }
@@ -92,7 +94,7 @@ fn in_one_call(report: &mut Report<impl Print + AllocGlobal>) -> io::Result<()> 
     let mut calls = calls(report.runtime().alloc())?;
     let block = settle(usual(20, 5, FIFTY, NOT_HELD)?, Containment, &mut calls);
     verdicts(report, &calls)?;
-    whole_block(report, &block)
+    show_both(report, &block, BOTH)
 }
 
 fn call_by_call(report: &mut Report<impl Print + AllocGlobal>) -> io::Result<()> {
@@ -101,7 +103,7 @@ fn call_by_call(report: &mut Report<impl Print + AllocGlobal>) -> io::Result<()>
     walk(report, &mut account, &FIRST_TWO)?;
     let mut batch = entries(report.runtime().alloc(), &LAST_THREE)?;
     report.compare("accepted of a batch of three", account.batch(&mut batch), 3)?;
-    whole_block(report, &account.close())
+    show_both(report, &account.close(), BOTH)
 }
 
 pub fn show(report: &mut Report<impl Print + AllocGlobal>) -> io::Result<()> {

@@ -1,9 +1,11 @@
 // A report: lines printed one after the other. Which bytes a runtime prints no contract can say.
 ghost use Rattle.std.specs.Prelude.{◌≡◌, if◌then◌else◌, codes};
+ghost use Rattle.std.specs.Result.{result_eq};
 ghost use Rattle.report.specs.Counts.{uncounted, counted};
 ghost use Rattle.report.specs.declared.counts.Counts.{Counts};
 
 use crate::counts::Counts;
+use either::Either;
 use std::fmt::Display;
 use std::io;
 use std::marker::Model;
@@ -75,6 +77,18 @@ impl<R: Print> Report<R> {
     {
         let verdict = self.verdict(figure == should_be);
         println!(self.rt; "  {words} {figure}, should be {should_be}: {verdict}")
+    }
+
+    // What a call that may refuse comes to, by its name, beside what it should come to: by the value, or by the refusal.
+    pub fn outcome<N: Display + Drop, T: Display + PartialEq + Drop, E: Display + PartialEq + Drop>(
+        &mut self,
+        name: N,
+        outcome: Result<T, E>,
+        should_be: Result<T, E>,
+    ) -> io::Result<()>
+        ensures { self.new ≡ (self.old.0, counted (result_eq T.eq E.eq outcome should_be) self.old.1) }
+    {
+        self.compare(name, Either::from(outcome), Either::from(should_be))
     }
 
     // Something that should be so.

@@ -1,6 +1,5 @@
 // What reading and writing a line answer. Each `Display` but an error's is written by hand: no derive of the library writes one.
 use crate::visible::Visible;
-use either::Either;
 use report::Report;
 use sheet::{Line, ReadFault, SheetFault, read_line};
 use std::{fmt, io};
@@ -34,7 +33,8 @@ impl fmt::Display for Kind {
     }
 }
 
-// The number of a refusal, and the byte.
+// The number of a refusal, and the byte. (A number, since the numbers that docs/SHEET.md gives are checked, which a fault's name
+// would not show.)
 #[derive(Clone, Copy, PartialEq, Eq, Debug, Error)]
 #[error("{0} at byte {1}")]
 pub struct RefusedAt(pub u32, pub usize);
@@ -72,10 +72,10 @@ fn read(line: &[u8]) -> Result<Kind, RefusedAt> {
 pub fn read_each(report: &mut Report<impl Print>, title: &str, cases: &[Case]) -> io::Result<()> {
     report.title(title)?;
     for Case(line, should_be) in cases {
-        report.compare(
+        report.outcome(
             format_args!("read {}", Visible(line)),
-            Either::from(read(line)),
-            Either::from(*should_be),
+            read(line),
+            *should_be,
         )?;
     }
     Ok(())

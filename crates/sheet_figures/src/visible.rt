@@ -8,29 +8,36 @@ const FRONT: usize = 40;
 
 const END: usize = 12;
 
+// (`Display` is written by hand: no derive of the library writes one that is not an error's.)
 #[derive(Clone, Copy, PartialEq, Eq)]
 pub struct Visible<'a>(pub &'a [u8]);
 
+// Each byte, between the quotes.
+fn each<W: fmt::Write>(bytes: &[u8], f: &mut fmt::Formatter<W>) -> fmt::Result {
+    for &b in bytes {
+        if matches!(b, b' '..=b'~') {
+            write!(f, "{}", b as char)?;
+        } else {
+            write!(f, "\\x{b:02x}")?;
+        }
+    }
+    Ok(())
+}
+
 impl fmt::Display for Visible<'_> {
     fn fmt<W: fmt::Write>(&self, f: &mut fmt::Formatter<W>) -> fmt::Result {
-        let count = self.0.len();
-        let end = count.saturating_sub(END);
+        let bytes = self.0;
+        let count = bytes.len();
         write!(f, "\"")?;
-        for (i, &b) in self.0.iter().enumerate() {
-            if count > MANY && (FRONT..end).contains(&i) {
-                if i == FRONT {
-                    write!(f, " .. ")?;
-                }
-            } else if matches!(b, b' '..=b'~') {
-                write!(f, "{}", b as char)?;
-            } else {
-                write!(f, "\\x{b:02x}")?;
-            }
+        if count <= MANY {
+            each(bytes, f)?;
+            return write!(f, "\"");
         }
-        write!(f, "\"")?;
-        if count > MANY {
-            write!(f, " of {count} bytes")?;
-        }
-        Ok(())
+        let (front, _) = bytes.split_at(FRONT);
+        let (_, end) = bytes.split_at(count - END);
+        each(front, f)?;
+        write!(f, " .. ")?;
+        each(end, f)?;
+        write!(f, "\" of {count} bytes")
     }
 }

@@ -3,7 +3,6 @@ use crate::answer::Written;
 use crate::long_lines::{POINTS_23, POINTS_23_OVER, POINTS_24};
 use crate::visible::Visible;
 use curve::Point;
-use either::Either;
 use report::Report;
 use rules::{Offer, Reading, TermsInput};
 use sheet::{CurveLine, Line, read_back, read_line, write_block, write_curve, write_reading};
@@ -188,7 +187,8 @@ const NOT_WRITTEN: [Entry; 9] = [
     Entry(Said::Curve(1, 1, &[ONE; 24]), &POINTS_24),
 ];
 
-// Whether a line that was read says this.
+// Whether a line that was read says this. (A match: `==` of lines would ask one of `Few`, which no derive could write, as the
+// places behind what it keeps do not count.)
 fn is_said(said: Said, line: Line) -> bool {
     match (said, line) {
         (Said::Block(terms), Line::Block(read)) => terms == read,
@@ -234,8 +234,9 @@ fn comes_back(said: Said) -> bool {
     back(&said).is_ok_and(|line| is_said(said, line))
 }
 
-// Writes into a buffer of so many bytes, each a #; should answer the count of bytes, or the number of a refusal. Where the line
-// is written its text stands at the front then; where it is not, the buffer is as it was.
+// Writes into a buffer of so many bytes, each a #; should answer the count of bytes, or the number of a refusal (which
+// docs/SHEET.md gives, and which a fault's name would not show). Where the line is written its text stands at the front then;
+// where it is not, the buffer is as it was.
 fn write_into(
     report: &mut Report<impl Print + AllocGlobal>,
     room: usize,
@@ -250,10 +251,10 @@ fn write_into(
         expected.extend_from_slice(text)?;
     }
     expected.resize(room, b'#')?;
-    report.compare(
+    report.outcome(
         format_args!("write into {room} bytes"),
-        Either::from(write(&said, &mut buffer).map_err(WriteFault::number)),
-        Either::from(should_be),
+        write(&said, &mut buffer).map_err(WriteFault::number),
+        should_be,
     )?;
     report.beside("the buffer then", Visible(&buffer), Visible(&expected))
 }
