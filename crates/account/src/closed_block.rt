@@ -5,7 +5,7 @@ use factors::Settlement;
 
 pub mod figures;
 
-// The curve that the account was opened on, and what the low and the high contract come to.
+// The curve that the account was opened on, and what the low and the high contract come to. (Two fields: see `Contract::pick`.)
 #[derive(Drop)]
 pub struct ClosedBlock<C> {
     curve: C,

@@ -13,7 +13,8 @@ use curve::Curve;
 use factors::{Judgement, Settlement, Tally};
 use rules::{Accepted, Contract, Reading, Terms};
 
-// The newest reading with its window, phase and bounds, and what the readings come to for each contract.
+// The newest reading with its window, phase and bounds, and what the readings come to for each contract. (Two fields for low and
+// high: see `Contract::pick`.)
 #[derive(Clone, Copy)]
 pub struct State {
     track: Track,

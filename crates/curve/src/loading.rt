@@ -49,7 +49,7 @@ fn follows(before: i64, deviation: i64) -> bool
     (0..=10_000).contains(&deviation) && before < deviation
 }
 
-// Each deviation follows the one before; the first may be 0.
+// Each deviation follows the one before; the first may be 0. (A `for`: `is_sorted_by` would leave the first to another test.)
 fn rising(points: &[Point]) -> bool
     ensures { result ≡ rising points.now }
 {
@@ -80,7 +80,7 @@ fn starts(points: &[Point]) -> bool
     points.first().is_none_or(|first| first.parts == 0)
 }
 
-// No parts are below the ones before.
+// No parts are below the ones before, nor the first below 0. (A `for`, as above.)
 fn climbs(points: &[Point]) -> bool
     ensures { result ≡ climbs (pos 0) points.now }
 {

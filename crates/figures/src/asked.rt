@@ -20,6 +20,7 @@ pub struct Asking<'a, C> {
     contract: Contract,
 }
 
+// One for each contract: a caller would have to name it twice, as a contract and as what is asked.
 pub fn low<C>(block: &ClosedBlock<C>) -> Asking<'_, C> {
     Asking {
         block,

@@ -15,10 +15,7 @@ pub fn or<T, D: Drop>(value: Option<T>, none: D) -> Either<D, T> {
 
 // What is told of a contract goes by this name.
 pub fn name(contract: Contract) -> &'static str {
-    match contract {
-        Contract::Low => "low",
-        Contract::High => "high",
-    }
+    contract.pick("low", "high")
 }
 
 // A refusal, by its number: the numbers that docs/RULES.md gives are checked, which a fault's name would not show. (Each fault

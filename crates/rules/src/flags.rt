@@ -17,7 +17,8 @@ struct Table {
     from: [Row; 4],
 }
 
-// A table for those who hold low only, high only, and both: in the order of `Sides`.
+// A table for those who hold low only, high only, and both: in the order of `Sides`. (Arrays of a fixed size with no count beside
+// them; a table of tables, each row in a struct, is a form that the project wants.)
 const TABLES: [Table; 3] = [
     Table {
         from: [

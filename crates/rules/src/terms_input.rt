@@ -50,6 +50,7 @@ impl TermsFault {
     }
 }
 
+// Each test has its definition and its refusal. Those of a range are not one function: it would do no more than `contains`.
 impl TermsInput {
     fn some_held(&self) -> bool
         ensures { result ≡ some_held self.now }

@@ -44,6 +44,7 @@ impl ReadFault {
     }
 }
 
+// Each `From` is written by hand: of one that the library derives no clause says which case it makes.
 impl From<Misfit> for ReadFault {
     ghost from_gives = { λ misfit r. r ≡ OfMisfit misfit };
 

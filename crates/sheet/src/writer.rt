@@ -19,7 +19,8 @@ fn write_kind<const N: usize, T: Numbered<N>>(said: &T, out: &mut [u8]) -> Resul
     write_filled(T::template(), &said.numbers(), out)
 }
 
-// Writes a block line in this way. (By a name of its own, like a reading line: the trait stays within the crate.)
+// Writes a block line in this way. (By a name of its own, like a reading line: a public write_kind would make
+// the trait public with its laws, for two names, which is no plainer.)
 pub fn write_block(terms: &TermsInput, out: &mut [u8]) -> Result<usize, WriteFault>
     ensures { Written (of_block terms.now) out.old out.new result }
 {

@@ -39,7 +39,7 @@ fn told(
     report.holds("  its line", fault.line == LINE)
 }
 
-// Why a curve of no points is turned down.
+// Why a curve of no points is turned down: none, which would be wrong, if it is taken.
 fn no_points() -> Option<Cause> {
     let line = CurveLine::new(5, 2, &[]).ok()?;
     curve_of(&line).err()

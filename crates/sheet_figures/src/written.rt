@@ -214,6 +214,7 @@ fn line_of(said: &Said) -> Result<Line, WriteFault> {
     })
 }
 
+// By the writer of each kind, so that each is run.
 fn write(said: &Said, out: &mut [u8]) -> Result<Written, WriteFault> {
     let line = line_of(said)?;
     let count = match line {

@@ -37,7 +37,7 @@ fn put_filled(template: &[u8], numbers: &[i64], text: &mut Text) -> Result<(), W
 }
 
 // Writes the template's text for these numbers at the front of the buffer, and says how many bytes it has; or says why not, and leaves
-// the buffer as it was.
+// the buffer as it was. (The buffer is the caller's, and no heap is used: a count is answered, and no text handed out.)
 pub fn write_filled(template: &[u8], numbers: &[i64], out: &mut [u8]) -> Result<usize, WriteFault>
     ensures { WrittenText numbers.now (fill template.now numbers.now) out.old out.new result }
 {

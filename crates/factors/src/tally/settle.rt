@@ -22,7 +22,7 @@ impl Tally {
     }
 
     // What the contract comes to: the figures of every period, the sum over the payable ones, the lowest factor and the
-    // payment.
+    // payment. (Terms and contract stay two: a struct of them would be made for each call.)
     #[tactic(auto, using(crate::proofs::LowestFacts::tabled_most))]
     pub fn settle(&self, terms: &Terms, contract: Contract) -> Settlement
         ensures value { (js : List Judged) → Tallied self.now js → told result ≡ settled terms.now contract js }

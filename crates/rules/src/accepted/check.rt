@@ -59,9 +59,6 @@ impl Accepted {
     pub fn available(&self, contract: Contract) -> bool
         ensures { result ≡ available contract self.now.reading.flag }
     {
-        match contract {
-            Contract::Low => self.flag() % 2 == 1,
-            Contract::High => self.flag() / 2 % 2 == 1,
-        }
+        contract.pick(self.flag() % 2 == 1, self.flag() / 2 % 2 == 1)
     }
 }
