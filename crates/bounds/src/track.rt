@@ -93,7 +93,8 @@ impl Track {
         self.last.map_or((0, 0), |last| last.bounds.into())
     }
 
-    // The error of a contract at the last accepted reading; none where it is not judged for the contract.
+    // The error of a contract at the last accepted reading; none where it is not judged for the contract. (Terms and contract stay
+    // two: a struct of them would be made for each call.)
     pub fn error<K: Curve>(&self, curve: &K, terms: &Terms, contract: Contract) -> Option<u64>
         ensures none { self.now.last ≡ None → result ≡ None }
         ensures error { (r : Reading) (h : List Reading) → Tracks (sides terms.now) (K.Curve.shape curve.now) (r ∷ h) self.now → result ≡ error_at terms.now (K.Curve.shape curve.now) contract r h }

@@ -20,7 +20,7 @@ pub struct Asking<'a, C> {
     contract: Contract,
 }
 
-// One for each contract: a caller would have to name it twice, as a contract and as what is asked.
+// One for each contract, by name: one function for both would have each caller hand in a `Contract`, which is no shorter.
 pub fn low<C>(block: &ClosedBlock<C>) -> Asking<'_, C> {
     Asking {
         block,

@@ -1,5 +1,5 @@
-// Terms and readings that the cases hand in. The columns of a row have no names, so that a table's rows stay on a line each; the
-// comment above a type names them. No derive of the library writes a `Display` that is not an error's.
+// Terms and readings that the cases hand in. The columns of a row have no names, here and in all tables of this program, so that
+// rows stay short; the comment above a type names them. No derive of the library writes a `Display` that is not an error's.
 use account::{Account, Answer, Entry};
 use curve::Curve;
 use rules::{Offer, Reading, SampleFault, Terms, TermsInput, check_terms};

@@ -11,7 +11,7 @@ pub struct Offer {
     pub price: i64,
 }
 
-// Terms as handed in: any numbers at all.
+// Terms as handed in: any numbers at all. (Two fields for low and high: see `Contract::pick`.)
 #[derive(Clone, Copy, PartialEq, Eq, Debug)]
 pub struct TermsInput {
     pub ticks: i64,

@@ -61,7 +61,7 @@ impl fmt::Display for Written {
     }
 }
 
-// Bytes, and what reading them should answer.
+// Bytes, and what reading them should answer. (No names for the columns of rows in this program: so rows stay short.)
 #[derive(Clone, Copy)]
 pub struct Case(pub &'static [u8], pub Result<Kind, RefusedAt>);
 

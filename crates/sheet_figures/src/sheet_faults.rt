@@ -39,7 +39,7 @@ fn told(
     report.holds("  its line", fault.line == LINE)
 }
 
-// Why a curve of no points is turned down: none, which would be wrong, if it is taken.
+// Why a curve of no points is turned down. (An `Option`: the refusal is what is looked for, and that there is none would be wrong.)
 fn no_points() -> Option<Cause> {
     let line = CurveLine::new(5, 2, &[]).ok()?;
     curve_of(&line).err()

@@ -1,4 +1,4 @@
-// A text of at most 200 bytes, made byte by byte.
+// A text of at most 200 bytes, made piece by piece.
 ghost use Rattle.std.specs.Prelude.{[], ◌∷◌};
 ghost use Rattle.template.specs.Templates.{PutBehind};
 

@@ -36,7 +36,7 @@ impl TryFrom<TermsInput> for Terms {
     }
 }
 
-// The same of terms that are lent: for its callers `Terms::try_from(*input)` would be no plainer.
+// The same of terms that are lent: a public name, and for who lends terms no less plain than `Terms::try_from(*input)`.
 pub fn check_terms(input: &TermsInput) -> Result<Terms, TermsFault>
     ensures { elim result [ Ok t ↦ (refused_terms input.now ≡ None) × (handed_in t ≡ input.now) | Err e ↦ refused_terms input.now ≡ Some e ] }
 {
