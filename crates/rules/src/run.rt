@@ -60,7 +60,7 @@ pub fn least<T: Copy, O: Order<T>>(run: &[T]) -> Option<T>
     Some(best)
 }
 
-// At numbers, whether signed or not, rising goes by which is smaller and falling by which is greater.
+// At signed numbers rising goes by which is smaller and falling by which is greater; at unsigned ones rising goes so too.
 pub fn orders_of_numbers()
     ensures rising { (x y : ℤ) → ⟦<Rising as Order<i64>>⟧.before x y ≡ int_lt x y }
     ensures falling { (x y : ℤ) → ⟦<Falling as Order<i64>>⟧.before x y ≡ int_lt y x }
