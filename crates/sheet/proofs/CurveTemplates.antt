@@ -1,6 +1,6 @@
 -- The template of a curve line of fewer points, from that of 23.
-use Rattle.std.proofs.Common.{◌≡◌, ℕ, zero, suc, ◌+◌, ◌-◌, ◌*◌, ◌≤◌, [], ◌∷◌, ◌++◌, length, take, set, codes, refl, ap, ◌∙◌, arith}
-use Rattle.std.proofs.lemmas.List.{take_all, take_more_set}
+use Rattle.std.proofs.Common.{◌≡◌, ℕ, zero, suc, ◌+◌, ◌*◌, ◌≤◌, [], ◌∷◌, ◌++◌, length, take, set, codes, refl, ap, ◌∙◌, arith}
+use Rattle.std.proofs.lemmas.List.{take_more_set}
 use Rattle.sheet.specs.Lines.{curve_template, points_template}
 
 points_front : (n m : ℕ) → n ≤ m → take (8 * n) (points_template m) ++ (41 ∷ []) ≡ points_template n
@@ -14,7 +14,7 @@ pub length_points : (n : ℕ) → length (points_template n) ≡ 8 * n + 1
 length_points zero = refl
 length_points (suc n) = omega (arith, length_points n)
 
-curve_front : (n : ℕ) → n ≤ 23 → take (8 * n + 11) (set (curve_template 23) (8 * n + 10) 41) ≡ curve_template n
+pub curve_front : (n : ℕ) → n ≤ 23 → take (8 * n + 11) (set (curve_template 23) (8 * n + 10) 41) ≡ curve_template n
 curve_front n few =
     let long : length (curve_template 23) ≡ 195 = refl in
     let more : 8 * n + 11 ≡ (8 * n + 10) + 1 = omega arith in
@@ -22,10 +22,3 @@ curve_front n few =
     ap (λ k. take k (set (curve_template 23) (8 * n + 10) 41)) more
     ∙ (take_more_set (curve_template 23) (8 * n + 10) 41 (omega arith)
     ∙ (ap (λ k. take k (curve_template 23) ++ (41 ∷ [])) ten ∙ ap (λ rest. codes "(curve # #" ++ rest) (points_front n 23 few)))
-
-pub curve_kept : (n long : ℕ) → n ≤ 23 → long ≡ 8 * n + 11 → take 195 (take long (set (curve_template 23) (long - 1) 41)) ≡ curve_template n
-curve_kept n long few is =
-    let last : long - 1 ≡ 8 * n + 10 = omega arith in
-    ap (λ k. take 195 (take k (set (curve_template 23) (long - 1) 41))) is
-    ∙ (ap (λ k. take 195 (take (8 * n + 11) (set (curve_template 23) k 41))) last
-    ∙ (ap (take 195) (curve_front n few) ∙ take_all 195 (curve_template n) (omega (arith, length_points n))))

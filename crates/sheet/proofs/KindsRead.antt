@@ -54,9 +54,9 @@ too_many bytes points is many ramp lag ps line = omega (arith, some_points bytes
 pub as_many : (ramp lag : ℤ) (ps : List Point) (n : ℕ) (zs : List ℤ) → line_numbers (of_curve ramp lag ps) ≡ zs → length zs ≡ holes (curve_template n) → length ps ≡ n
 as_many ramp lag ps n zs is many = omega (arith, ap length is, length_numbers ps, holes_curve n)
 
-pub no_curve : (bytes : List ℕ) (points : ℕ) → points ≡ openings bytes - 1 → (apart (curve_template points) ≡ true → holes (curve_template points) ≤ 48 → Unfilled (curve_template points) bytes)
-    → points ≤ 23 → CurveRead bytes None
-no_curve bytes points is so few ramp lag ps line =
+pub no_curve : (bytes : List ℕ) (points room : ℕ) → points ≡ openings bytes - 1 → (apart (curve_template points) ≡ true → holes (curve_template points) ≤ room → Unfilled (curve_template points) bytes)
+    → 2 * points + 2 ≤ room → CurveRead bytes None
+no_curve bytes points room is so wide ramp lag ps line =
     let many : length ps ≡ points = omega (arith, some_points bytes ramp lag ps line) in
     so (apart_curve points) (omega (arith, holes_curve points)) (line_numbers (of_curve ramp lag ps)) line.short
     (line.spelled ∙ ap (λ k. fill (curve_template k) (line_numbers (of_curve ramp lag ps))) many)

@@ -8,7 +8,7 @@ use crate::curve_line::{CurveLine, MOST_POINTS};
 use crate::faults::ReadFault;
 use crate::line::Line;
 use crate::numbers::Numbered;
-use crate::templates::curve_template;
+use crate::templates::{curve_length, curve_template};
 use form::check_form;
 use rules::{Reading, TermsInput};
 use template::{LONGEST, read_filled};
@@ -18,8 +18,12 @@ fn read_kind<const N: usize, T: Numbered<N> + Drop>(bytes: &[u8]) -> Option<T>
     requires { N ≤ 100 }
     ensures { KindRead T.says bytes.now result }
 {
-    let numbers = read_filled::<N>(T::template(), bytes)?;
-    Some(T::of_numbers(&numbers.into_inner().ok()?))
+    let mut numbers = [0; N];
+    if read_filled(T::template(), bytes, &mut numbers) {
+        Some(T::of_numbers(&numbers))
+    } else {
+        None
+    }
 }
 
 // How many opening brackets there are: one for a curve line, and one for each of its points.
@@ -37,8 +41,14 @@ fn read_curve(bytes: &[u8]) -> Option<CurveLine>
     if points > MOST_POINTS {
         return None;
     }
-    let numbers = read_filled::<MOST_NUMBERS>(curve_template(points).as_slice(), bytes)?;
-    Some(CurveLine::of_numbers(numbers.as_slice()))
+    let mut room = [0; MOST_NUMBERS];
+    let numbers = &mut room[..2 * points + 2];
+    let template = curve_template(points);
+    if read_filled(&template[..curve_length(points)], bytes, numbers) {
+        Some(CurveLine::of_numbers(numbers))
+    } else {
+        None
+    }
 }
 
 // The line that these bytes are, or why they are none.

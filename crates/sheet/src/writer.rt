@@ -6,7 +6,7 @@ ghost use Rattle.sheet.specs.Writes.{Written};
 use crate::curve_line::CurveLine;
 use crate::line::Line;
 use crate::numbers::Numbered;
-use crate::templates::curve_template;
+use crate::templates::{curve_length, curve_template};
 use rules::{Reading, TermsInput};
 use template::{WriteFault, write_filled};
 
@@ -31,8 +31,13 @@ pub fn write_block(terms: &TermsInput, out: &mut [u8]) -> Result<usize, WriteFau
 pub fn write_curve(line: &CurveLine, out: &mut [u8]) -> Result<usize, WriteFault>
     ensures { Written (curve_said line.now) out.old out.new result }
 {
-    let template = curve_template(line.points().len());
-    write_filled(template.as_slice(), line.numbers().as_slice(), out)
+    let points = line.points().len();
+    let template = curve_template(points);
+    write_filled(
+        &template[..curve_length(points)],
+        line.numbers().as_slice(),
+        out,
+    )
 }
 
 // Writes a reading line in the same way.

@@ -1,12 +1,12 @@
 -- Bytes read by a template: its first byte or hole, and the rest.
-use Rattle.std.proofs.Common.{◌≡◌, ℕ, suc, ◌+◌, ◌<◌, ◌≤◌, true, false, cond, not, ◌&&◌, ◌||◌, List, [], ◌∷◌, ◌++◌, length, get_or, take, drop, ℤ, pos, negsuc, sym, refl, ap, ◌∙◌, subst, inl, inr, arith}
+use Rattle.std.proofs.Common.{◌≡◌, ℕ, suc, ◌+◌, ◌<◌, ◌≤◌, Bool, true, false, ◌==◌, cond, not, ◌&&◌, ◌||◌, List, [], ◌∷◌, ◌++◌, length, get_or, set, take, drop, ℤ, pos, negsuc, sym, refl, ap, ◌∙◌, subst, inl, inr, arith}
 use Rattle.std.proofs.lemmas.Fmt.{decimal_nonempty}
-use Rattle.std.proofs.lemmas.List.{append_assoc, append-nil, at_drop_more, drop_all, length-append, length_push, nil_from_length}
-use Rattle.std.proofs.lemmas.Bool.{and_from, and_parts, cases_Bool, eq-eqb, ltb-true, ne_eqb, not-true, or_parts}
+use Rattle.std.proofs.lemmas.List.{append_assoc, at_drop_more, drop-drop, drop-set-lt, drop_all, length-append, length-take-le, length_push, nil_from_length, take-append-drop, take_more_set}
+use Rattle.std.proofs.lemmas.Bool.{and_from, and_parts, cases_Bool, eq-eqb, eqb-false, eqb-true, ltb-true, ne_eqb, not-true, or_parts}
 use Rattle.std.specs.Char.{is_ascii_digit}
 use Rattle.std.specs.Fmt.{signed_decimal}
 use Rattle.template.specs.Numbers.{digit_first, short, Leads}
-use Rattle.template.specs.Templates.{all_short, apart, ends_number, fill, Fills, holes, is_hole, Unfilled}
+use Rattle.template.specs.Templates.{all_short, apart, ends_number, fill, Fills, holes, is_hole, Tells, Unfilled}
 use Rattle.template.proofs.DigitsRead.{same_led}
 
 module _ (b : ℕ) (t : List ℕ) (is : is_hole b ≡ false) where
@@ -62,15 +62,13 @@ module _ (b : ℕ) (t : List ℕ) (is : is_hole b ≡ true) where
   unfilled_hole bytes z rest ends led none = λ others few e.
       none (drop 1 others) (rest_short others few) (same_led bytes z rest led (get_or others 0 (pos 0)) (fill t (drop 1 others)) (led_by bytes others ends few e)).1
 
-  no_number : (bytes : List ℕ) → ends_number t ≡ true → ((z : ℤ) (rest : List ℕ) → Leads bytes z rest → ⊥) → Unfilled (b ∷ t) bytes
-  no_number bytes ends none others few e = none (get_or others 0 (pos 0)) (fill t (drop 1 others)) (led_by bytes others ends few e)
-
 -- How far a template has been read: what is left of it and of the bytes, and the numbers so far, decide.
-pub record SoFar (ts bytes : List ℕ) (room i : ℕ) (rest : List ℕ) (zs : List ℤ) : Type 0 where
-  pub filled : (ys : List ℤ) → Fills (drop i ts) rest ys → length ys ≡ holes (drop i ts) → Fills ts bytes (zs ++ ys) × (length (zs ++ ys) ≡ holes ts)
-  pub none : (apart (drop i ts) ≡ true → length zs + holes (drop i ts) ≤ room → Unfilled (drop i ts) rest) → apart ts ≡ true → holes ts ≤ room → Unfilled ts bytes
+pub record SoFar (ts bytes : List ℕ) (i : ℕ) (rest : List ℕ) (zs : List ℤ) : Type 0 where
+  pub filled : (ys : List ℤ) → Fills (drop i ts) rest ys → Fills ts bytes (zs ++ ys)
+  pub counted : length zs + holes (drop i ts) ≡ holes ts
+  pub none : (apart (drop i ts) ≡ true → Unfilled (drop i ts) rest) → apart ts ≡ true → Unfilled ts bytes
 
-module _ (ts bytes : List ℕ) (room i : ℕ) (inside : i < length ts) (rest : List ℕ) (zs : List ℤ) (so_far : SoFar ts bytes room i rest zs) where
+module _ (ts bytes : List ℕ) (i : ℕ) (inside : i < length ts) (rest : List ℕ) (zs : List ℤ) (so_far : SoFar ts bytes i rest zs) where
   abbrev pub b : ℕ
   b = get_or ts i 0
 
@@ -81,50 +79,66 @@ module _ (ts bytes : List ℕ) (room i : ℕ) (inside : i < length ts) (rest : L
   here = at_drop_more (λ xs. xs) ts i 0 inside
 
   -- It goes on with a byte that is no hole.
-  pub byte_read : (after : List ℕ) → (b ≡ 35 → ⊥) → rest ≡ b ∷ after → SoFar ts bytes room (i + 1) after zs
+  pub byte_read : (after : List ℕ) → (b ≡ 35 → ⊥) → rest ≡ b ∷ after → SoFar ts bytes (i + 1) after zs
   byte_read after not is =
       let no : is_hole b ≡ false = ne_eqb b 35 not in
       record {
-        filled = λ ys so count.
+        filled = λ ys so.
             so_far.filled ys
-            (subst (λ (s : List ℕ). Fills s rest ys) (sym here) (subst (λ (s : List ℕ). Fills (b ∷ t) s ys) (sym is) (fills_byte b t no after ys so)))
-            (count ∙ sym (ap holes here ∙ holes_byte b t no));
-        none = λ none. so_far.none (λ aparts few.
+            (subst (λ (s : List ℕ). Fills s rest ys) (sym here) (subst (λ (s : List ℕ). Fills (b ∷ t) s ys) (sym is) (fills_byte b t no after ys so)));
+        counted = ap (λ n. length zs + n) (sym (ap holes here ∙ holes_byte b t no)) ∙ so_far.counted;
+        none = λ none. so_far.none (λ aparts.
             subst (λ (s : List ℕ). Unfilled s rest) (sym here)
             (subst (λ (s : List ℕ). Unfilled (b ∷ t) s) (sym is)
-            (unfilled_byte b t no after (none (sym (ap apart here ∙ apart_byte b t no) ∙ aparts) (omega (arith, ap holes here, holes_byte b t no))))));
+            (unfilled_byte b t no after (none (sym (ap apart here ∙ apart_byte b t no) ∙ aparts)))));
       }
 
   -- It goes on with a hole.
-  pub number_read : (z : ℤ) (after : List ℕ) → b ≡ 35 → Leads rest z after → SoFar ts bytes room (i + 1) after (zs ++ z ∷ [])
+  pub number_read : (z : ℤ) (after : List ℕ) → b ≡ 35 → Leads rest z after → SoFar ts bytes (i + 1) after (zs ++ z ∷ [])
   number_read z after is led =
       let yes : is_hole b ≡ true = eq-eqb b 35 is in
       record {
-        filled = λ ys so count.
-            let more = so_far.filled (z ∷ ys) (subst (λ (s : List ℕ). Fills s rest (z ∷ ys)) (sym here) (fills_hole b t yes rest z after ys led so))
-            (ap suc count ∙ sym (ap holes here ∙ holes_hole b t yes)) in
-            subst (λ (xs : List ℤ). Fills ts bytes xs × (length xs ≡ holes ts)) (sym (append_assoc zs (z ∷ []) ys)) more;
-        none = λ none. so_far.none (λ aparts few.
+        filled = λ ys so.
+            subst (λ (xs : List ℤ). Fills ts bytes xs) (sym (append_assoc zs (z ∷ []) ys))
+            (so_far.filled (z ∷ ys) (subst (λ (s : List ℕ). Fills s rest (z ∷ ys)) (sym here) (fills_hole b t yes rest z after ys led so)));
+        counted = omega (arith, so_far.counted, length_push zs z, ap holes here, holes_hole b t yes);
+        none = λ none. so_far.none (λ aparts.
             let both = and_parts (ends_number t) (apart t) (sym (ap apart here ∙ apart_hole b t yes) ∙ aparts) in
             subst (λ (s : List ℕ). Unfilled s rest) (sym here)
-            (unfilled_hole b t yes rest z after both.0 led (none both.1 (omega (arith, length_push zs z, ap holes here, holes_hole b t yes)))));
+            (unfilled_hole b t yes rest z after both.0 led (none both.1)));
       }
 
-  pub no_number_read : b ≡ 35 → ((z : ℤ) (after : List ℕ) → Leads rest z after → ⊥) → apart ts ≡ true → holes ts ≤ room → Unfilled ts bytes
-  no_number_read is none =
-      let yes : is_hole b ≡ true = eq-eqb b 35 is in
-      so_far.none (λ aparts few.
-      subst (λ (s : List ℕ). Unfilled s rest) (sym here) (no_number b t yes rest (and_parts (ends_number t) (apart t) (sym (ap apart here ∙ apart_hole b t yes) ∙ aparts)).0 none))
+-- The template has been read to its end: the numbers so far fill it, whatever stands behind them.
+pub read_whole : (ts bytes : List ℕ) (i : ℕ) (zs ys : List ℤ) → length ts ≤ i → SoFar ts bytes i [] zs → Fills ts bytes (zs ++ ys)
+read_whole ts bytes i zs ys past so_far = so_far.filled ys (subst (λ (s : List ℕ). Fills s [] ys) (sym (drop_all i ts past)) (record { spelled = refl; short = refl }))
 
-  pub no_room_left : b ≡ 35 → length zs ≡ room → apart ts ≡ true → holes ts ≤ room → Unfilled ts bytes
-  no_room_left is full = so_far.none (λ aparts few. absurd (omega (arith, ap holes here, holes_hole b t (eq-eqb b 35 is))))
+-- Where the template has been read to its end, the bytes that are left decide whether the numbers so far, and any behind them, fill it.
+pub told_at_end : (ts bytes : List ℕ) (room i count : ℕ) (rest : List ℕ) (numbers : List ℤ) → length ts ≤ i → SoFar ts bytes i rest (take count numbers)
+    → (empty : Bool) → empty ≡ (length rest == 0) → Tells ts bytes room numbers empty
+told_at_end ts bytes room i count rest numbers past so_far true is =
+    subst (λ (zs : List ℤ). Fills ts bytes zs) (take-append-drop count numbers)
+    (read_whole ts bytes i (take count numbers) (drop count numbers) past
+    (subst (λ (s : List ℕ). SoFar ts bytes i s (take count numbers)) (nil_from_length rest (eqb-true (length rest) 0 (sym is))) so_far))
+told_at_end ts bytes room i count rest numbers past so_far false is = λ aparts few.
+    so_far.none (λ behind others short e. eqb-false (length rest) 0 (sym is) (ap length e ∙ ap (λ s. length (fill s others)) (drop_all i ts past))) aparts
 
--- The template has been read to its end.
-pub read_whole : (ts bytes : List ℕ) (room i : ℕ) (zs : List ℤ) → length ts ≤ i → SoFar ts bytes room i [] zs → Fills ts bytes zs × (length zs ≡ holes ts)
-read_whole ts bytes room i zs past so_far =
-    let none : drop i ts ≡ [] = drop_all i ts past in
-    subst (λ (xs : List ℤ). Fills ts bytes xs × (length xs ≡ holes ts)) (append-nil zs)
-    (so_far.filled [] (subst (λ (s : List ℕ). Fills s [] []) (sym none) (record { spelled = refl; short = refl })) (sym (ap holes none)))
+-- Numbers that are the lent ones from some place on are so behind the holes too.
+pub stays_behind : (ts bytes : List ℕ) (i count : ℕ) (rest : List ℕ) (numbers lent : List ℤ) → SoFar ts bytes i rest (take count numbers) → count ≤ length numbers
+    → drop count numbers ≡ drop count lent → drop (holes ts) numbers ≡ drop (holes ts) lent
+stays_behind ts bytes i count rest numbers lent so_far within same =
+    let n = holes (drop i ts) in
+    let all : count + n ≡ holes ts = ap (λ k. k + n) (sym (length-take-le count numbers within)) ∙ so_far.counted in
+    ap (λ k. drop k numbers) (sym all) ∙ (sym (drop-drop n count numbers) ∙ (ap (drop n) same ∙ (drop-drop n count lent ∙ ap (λ k. drop k lent) all)))
+
+-- A number more is put down in the place behind those so far.
+module _ (ts bytes : List ℕ) (i : ℕ) (inside : i < length ts) (rest : List ℕ) (count : ℕ) (numbers lent : List ℤ) (so_far : SoFar ts bytes i rest (take count numbers)) (room : count < length numbers) where
+  pub put : (z : ℤ) (after : List ℕ) → get_or ts i 0 ≡ 35 → Leads rest z after → SoFar ts bytes (i + 1) after (take (count + 1) (set numbers count z))
+  put z after is led =
+      subst (λ (zs : List ℤ). SoFar ts bytes (i + 1) after zs) (sym (take_more_set numbers count z room))
+      (number_read ts bytes i inside rest (take count numbers) so_far z after is led)
+
+  pub put_before : (z : ℤ) → drop count numbers ≡ drop count lent → drop (count + 1) (set numbers count z) ≡ drop (count + 1) lent
+  put_before z same = drop-set-lt (count + 1) numbers count z (omega arith) ∙ (sym (drop-drop 1 count numbers) ∙ (ap (drop 1) same ∙ drop-drop 1 count lent))
 
 -- Each hole becomes a byte at least.
 some_bytes : (z : ℤ) → short z ≡ true → 0 < length (signed_decimal z)

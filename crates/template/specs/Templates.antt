@@ -1,6 +1,5 @@
 -- Templates: text with a hole, #, for each number. Assumes nothing.
-use Rattle.std.specs.Prelude.{◌≡◌, ℕ, suc, ◌<◌, ◌≤◌, Bool, true, cond, not, ◌&&◌, ◌||◌, List, [], ◌∷◌, ◌++◌, length, take, drop, ℤ, pos, Some, None, Ok, Err, Option, Result, ◌==◌, ◌≢◌, nat_le, slice_index_or}
-use Rattle.arrayvec.specs.ArrayVec.{ArrayVec}
+use Rattle.std.specs.Prelude.{◌≡◌, ℕ, suc, ◌<◌, ◌≤◌, Bool, true, false, cond, not, ◌&&◌, ◌||◌, List, [], ◌∷◌, ◌++◌, length, take, drop, ℤ, pos, Some, None, Ok, Err, Option, Result, ◌==◌, ◌≢◌, nat_le, slice_index_or}
 use Rattle.std.specs.Char.{is_ascii_digit}
 use Rattle.std.specs.Fmt.{signed_decimal}
 use Rattle.std.specs.List.{list_all}
@@ -53,11 +52,11 @@ pub record Fills (template bytes : List ℕ) (numbers : List ℤ) : Type 0 where
 abbrev pub Unfilled : List ℕ → List ℕ → Type 0
 Unfilled template bytes = (others : List ℤ) → all_short others ≡ true → bytes ≢ fill template others
 
--- The answer to which short numbers fill a template so that it is these bytes: these, in the order of the holes; or none, where it can
--- be told where each number ends and there is room for all of them.
-abbrev pub Tells : List ℕ → List ℕ → ℕ → Option (ArrayVec ℤ) → Type 0
-Tells template bytes room (Some numbers) = Fills template bytes numbers.items × (length numbers.items ≡ holes template)
-Tells template bytes room None = apart template ≡ true → holes template ≤ room → Unfilled template bytes
+-- The answer to whether bytes are the template's text for some short numbers: yes, for these; or no, where it can be told where each
+-- number ends and there is room for all of them.
+abbrev pub Tells : List ℕ → List ℕ → ℕ → List ℤ → Bool → Type 0
+Tells template bytes room numbers true = Fills template bytes numbers
+Tells template bytes room numbers false = apart template ≡ true → holes template ≤ room → Unfilled template bytes
 
 -- The most bytes that a text has.
 abbrev pub longest : ℕ

@@ -5,7 +5,7 @@ ghost use Rattle.template.specs.Templates.{all_short, fill, PutBehind, WrittenTe
 
 use crate::digits::put_number;
 use crate::fault::WriteFault;
-use crate::text::{Text, put_byte};
+use crate::text::{LONGEST, Text, put_byte};
 
 // Whether a number has at most ten digits.
 fn is_short(z: i64) -> bool
@@ -38,10 +38,12 @@ fn put_filled(template: &[u8], numbers: &[i64], text: &mut Text) -> Result<(), W
 
 // Writes the template's text for these numbers at the front of the buffer, and says how many bytes it has; or says why not, and leaves
 // the buffer as it was. (The buffer is the caller's, and no heap is used: a count is answered, and no text handed out.)
+#[tactic(auto, using(crate::proofs::FilledRead::fill_long))]
 pub fn write_filled(template: &[u8], numbers: &[i64], out: &mut [u8]) -> Result<usize, WriteFault>
     ensures { WrittenText numbers.now (fill template.now numbers.now) out.old out.new result }
 {
-    if !all_short(numbers) {
+    // A template is no longer than its text: each hole becomes a byte at least.
+    if !all_short(numbers) || template.len() > LONGEST {
         return Err(WriteFault::TooLong);
     }
     let mut text = Text::new();

@@ -18,6 +18,18 @@ impl<T: Copy + Default, const N: usize> Few<T, N> {
 }
 
 impl<T, const N: usize> Few<T, N> {
+    // The first `count` of these things, or all where they are fewer. (Beside `first`: things that lie in N places as it is are not
+    // copied into others.)
+    #[tactic(auto, using(std::proofs::lemmas::List::take_min))]
+    pub fn front(places: [T; N], count: usize) -> Few<T, N>
+        ensures { items result ≡ take count places }
+    {
+        Few {
+            places,
+            count: count.min(N),
+        }
+    }
+
     // The things that are kept.
     pub fn as_slice(&self) -> &[T]
         ensures { result.now ≡ items self.now }

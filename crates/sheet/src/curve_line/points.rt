@@ -57,27 +57,29 @@ impl CurveLine {
         numbers
     }
 
-    // The line with these numbers. (Not by `chunks_exact`, whose parts are slices that need an index again; no `From`, since any
-    // numbers are not a line's.)
+    // The line with these numbers. (Not by `chunks_exact`, whose parts are slices that need an index again, nor by an `ArrayVec` of
+    // points, which would be copied once more; no `From`, since any numbers are not a line's.)
     pub(crate) fn of_numbers(numbers: &[i64]) -> CurveLine
         requires some { 2 ≤ length numbers.now }
         requires few { length numbers.now ≤ 48 }
         requires even { length numbers.now % 2 ≡ 0 }
         ensures { line_numbers (curve_said result) ≡ numbers.now }
     {
-        let mut points = ArrayVec::<Point, MOST_POINTS>::new();
+        let mut points = [Point::default(); MOST_POINTS];
+        let mut count = 0;
         let mut rest = &numbers[2..];
         while let [deviation, parts, after @ ..] = rest {
-            points.push(Point {
+            points[count] = Point {
                 deviation: *deviation,
                 parts: *parts,
-            });
+            };
+            count += 1;
             rest = after;
         }
         CurveLine {
             ramp: numbers[0],
             lag: numbers[1],
-            points: kept(points.as_slice()),
+            points: Few::front(points, count),
         }
     }
 }

@@ -1,4 +1,4 @@
-use Rattle.std.proofs.Common.{◌≡◌, ◌-◌, length, sym, ap, ◌∙◌, arith}
+use Rattle.std.proofs.Common.{◌≡◌, ◌+◌, ◌-◌, ◌*◌, length, take, sym, ap, ◌∙◌, arith, rules}
 use Rattle.template.specs.Templates.{holes}
 use Rattle.sheet.specs.Lines.{curve_said, curve_template, points_of}
 use Rattle.sheet.proofs.KindsRead.{as_many, holes_curve, kind_read, no_curve, too_many}
@@ -8,21 +8,18 @@ pub returns-then-points-gt-MOST_POINTS : goal.returns-then-points-gt-MOST_POINTS
 returns-then-points-gt-MOST_POINTS c =
     too_many c.args.bytes.now c.in_ok-points.points (c.in_ok-points.ensures.1 ∙ ap (λ n. n - 1) c.openings.ensures) (omega arith)
 
-pub returns-in_err-numbers : goal.returns-in_err-numbers
-returns-in_err-numbers c =
-    let is = c.as_slice.ensures ∙ c.curve_template.ensures in
-    rw c.from_residual-in_err-numbers.ensures
-    (no_curve c.args.bytes.now c.in_ok-points.points (c.in_ok-points.ensures.1 ∙ ap (λ n. n - 1) c.openings.ensures) (rw is at c.in_err-numbers.ensures) (omega arith))
-
-pub of_numbers-requires-clause-even : goal.of_numbers-requires-clause-even
-of_numbers-requires-clause-even c =
-    let is = c.as_slice.ensures ∙ c.curve_template.ensures in
-    omega (arith, ap length c.as_slice-2.ensures.value, c.in_ok-numbers.ensures.1, ap holes is, holes_curve c.in_ok-points.points)
-
-pub returns : goal.returns
-returns c =
-    let is = c.as_slice.ensures ∙ c.curve_template.ensures in
-    let numbers = c.of_numbers.ensures ∙ c.as_slice-2.ensures.value in
+pub returns-then-read_filled : goal.returns-then-read_filled
+returns-then-read_filled c =
+    let template = take c.curve_length.result c.curve_template-template.result in
+    let is : template ≡ curve_template c.in_ok-points.points = ap (λ n. take n c.curve_template-template.result) c.curve_length.ensures ∙ c.curve_template-template.ensures in
+    let wide : length c.read_filled.new.numbers ≡ 2 * c.in_ok-points.points + 2 = search rules in
+    let all : length c.read_filled.new.numbers ≡ holes template = omega (arith, wide, ap holes is, holes_curve c.in_ok-points.points) in
     let many : length (points_of c.of_numbers.result) ≡ c.in_ok-points.points =
-    as_many c.of_numbers.result.ramp c.of_numbers.result.lag (points_of c.of_numbers.result) c.in_ok-points.points _ numbers (c.in_ok-numbers.ensures.1 ∙ ap holes is) in
-    kind_read (curve_said c.of_numbers.result) _ c.args.bytes.now c.in_ok-numbers.numbers.items (ap curve_template many ∙ sym is) numbers c.in_ok-numbers.ensures
+    as_many c.of_numbers.result.ramp c.of_numbers.result.lag (points_of c.of_numbers.result) c.in_ok-points.points _ c.of_numbers.ensures (all ∙ ap holes is) in
+    kind_read (curve_said c.of_numbers.result) _ c.args.bytes.now c.read_filled.new.numbers (ap curve_template many ∙ sym is) c.of_numbers.ensures (c.if-read_filled.ensures.read, all)
+
+pub returns-else-read_filled : goal.returns-else-read_filled
+returns-else-read_filled c =
+    let template = take c.curve_length.result c.curve_template-template.result in
+    let is : template ≡ curve_template c.in_ok-points.points = ap (λ n. take n c.curve_template-template.result) c.curve_length.ensures ∙ c.curve_template-template.ensures in
+    no_curve c.args.bytes.now c.in_ok-points.points _ (c.in_ok-points.ensures.1 ∙ ap (λ n. n - 1) c.openings.ensures) (rw is at c.if-read_filled.ensures.read) (search rules)
