@@ -12,7 +12,7 @@ mod worked;
 pub use answer::Answer;
 pub use closed_block::ClosedBlock;
 pub use closed_block::figures::PeriodFault;
-pub use entry::{Entry, Verdict};
+pub use entry::{Entry, Verdict, VerdictExt};
 pub use open_account::Account;
 pub use runs::{Call, settle};
 pub use worked::twelve_figures_stand;
