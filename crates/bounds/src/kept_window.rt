@@ -3,8 +3,9 @@ ghost use Rattle.std.specs.Prelude.{◌≡◌, ◌≤◌, []};
 ghost use Rattle.std.specs.Option.{unwrap_or};
 ghost use Rattle.curve.specs.Shape.{nominal};
 ghost use Rattle.rules.specs.Least.{least};
+ghost use Rattle.bounds.specs.Window.{lowest, highest};
 
-use rules::{Order, least};
+use rules::{Falling, Order, Rising, least};
 
 // The latest frequencies in mHz, the newest last, and how many of them are in the window. (An array and a count: no heap is a
 // rule of the project, and a window is copied, which an `ArrayVec` is not. In a `Few` the newest would have no fixed place.)
@@ -51,5 +52,19 @@ impl Window {
         ensures { result ≡ unwrap_or (least O.Order.before (told self.now)) nominal }
     {
         least::<i64, O>(self.frequencies()).unwrap_or(50_000)
+    }
+
+    #[tactic(auto, using(rules::proofs::Orders::least_signed))]
+    pub fn lowest(&self) -> i64
+        ensures { result ≡ lowest (told self.now) }
+    {
+        self.first::<Rising>()
+    }
+
+    #[tactic(auto, using(rules::proofs::Orders::greatest_signed))]
+    pub fn highest(&self) -> i64
+        ensures { result ≡ highest (told self.now) }
+    {
+        self.first::<Falling>()
     }
 }

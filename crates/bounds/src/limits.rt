@@ -6,7 +6,6 @@ ghost use Rattle.bounds.specs.Kept.{told};
 use crate::kept_window::Window;
 use crate::parts::Parts;
 use curve::{Curve, Sides};
-use rules::{Falling, Rising};
 
 // In parts, the lower first.
 #[derive(Clone, Copy)]
@@ -42,8 +41,8 @@ impl Bounds {
             Bounds::widest(held, Parts::full(curve))
         } else {
             Bounds {
-                lower: Parts::at(curve, window.first::<Falling>()),
-                upper: Parts::at(curve, window.first::<Rising>()),
+                lower: Parts::at(curve, window.highest()),
+                upper: Parts::at(curve, window.lowest()),
             }
         }
     }
