@@ -2,7 +2,7 @@
 // rows stay short; the comment above a type names them. No derive of the library writes a `Display` that is not an error's.
 use account::{Account, Answer, Entry};
 use curve::Curve;
-use rules::{Offer, Reading, SampleFault, Terms, TermsInput, check_terms};
+use rules::{Offer, Reading, SampleFault, Terms, TermsInput};
 use std::alloc::{AllocError, Global};
 use std::{fmt, io};
 
@@ -57,7 +57,7 @@ impl fmt::Display for Input {
 // Terms with the usual tolerances; a period has so many ticks and needs so many readings.
 pub fn usual(ticks: i64, needed: i64, low: Contracted, high: Contracted) -> io::Result<Terms> {
     let input = TermsInput::from(Input(ticks, needed, 30_000, 70_000, low, high));
-    check_terms(&input).map_err(|_| io::Error::from(io::ErrorKind::InvalidInput))
+    Terms::try_from(input).map_err(|_| io::Error::from(io::ErrorKind::InvalidInput))
 }
 
 // A reading: its tick, frequency in mHz, power and baseline in kW, and flag.

@@ -2,7 +2,7 @@
 use crate::cases::{Case, refusals};
 use crate::inputs::{FIFTY, Input, NOT_HELD};
 use report::Report;
-use rules::{Terms, TermsFault, TermsInput};
+use rules::{TermsFault, TermsInput, check_terms};
 use std::io;
 
 const QUANTITIES: [Case<Input>; 10] = [
@@ -71,7 +71,7 @@ const SEVERAL_FIT: [Case<Input>; 7] = [
 
 // The number of the refusal of terms.
 fn number(input: Input) -> io::Result<Option<u32>> {
-    let refused = Terms::try_from(TermsInput::from(input)).err();
+    let refused = check_terms(&TermsInput::from(input)).err();
     Ok(refused.map(TermsFault::number))
 }
 
